@@ -1,0 +1,6 @@
+pub mod Causes
+pub mod Decimal
+pub mod Memory
+pub mod Order
+pub mod Status
+pub mod Transfer

@@ -1,0 +1,32 @@
+//! What every crate of spie stands on: the plain values, the errors and statuses, where bytes come
+//! from and go, numbers as text, and what a flood sees of a router.
+//!
+//! Its central contracts are those of the traits: a source, a sink and a sighting are seen by ghost
+//! members alone (bytes, a count of faults, a test of signatures), so that everything above is proved
+//! once for files, memory and failing stand-ins alike. Read `types`, `errors`, `source` and `sighting`
+//! first, then `transfer`, which moves whole inputs and outputs.
+#![tactic(auto)]
+
+mod decimals;
+mod errors;
+mod list;
+mod memory;
+mod sighting;
+mod sorting;
+mod source;
+mod standard;
+mod status;
+mod transfer;
+mod types;
+
+pub use decimals::decimal;
+pub use errors::{NoMemory, ReadFailed, ReadRefused, WriteFailed};
+pub use list::List;
+pub use memory::{MemSink, MemSource};
+pub use sighting::Sighting;
+pub use sorting::ascending;
+pub use source::{Sink, Source};
+pub use standard::{IoSink, IoSource};
+pub use status::Status;
+pub use transfer::{read_all, write_all};
+pub use types::{Marks, N_MOST, PageNo, PageRange, PageShape, RouterId, Rules, Sig};
