@@ -30,3 +30,6 @@ pub use standard::{IoSink, IoSource};
 pub use status::Status;
 pub use transfer::{read_all, write_all};
 pub use types::{Marks, N_MOST, PageNo, PageRange, PageShape, RouterId, Rules, Sig};
+
+#[cfg(test)]
+mod tests;

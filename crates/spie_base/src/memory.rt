@@ -9,6 +9,13 @@ use crate::{NoMemory, ReadFailed, Sink, Source, WriteFailed};
 use std::alloc::Global;
 use std::marker::Model;
 
+// Whether a call's number is among those listed.
+fn is_listed(listed: &[u64], call: u64) -> bool
+    ensures { result ≡ is_listed listed.now call }
+{
+    listed.iter().any(|other| *other == call)
+}
+
 /// Bytes, given a few at a time.
 #[derive(Drop)]
 pub struct MemSource {
@@ -81,7 +88,7 @@ impl Source for MemSource {
     {
         let call = self.calls;
         self.calls = call.saturating_add(1);
-        if self.failing.iter().any(|other| *other == call) {
+        if is_listed(&self.failing, call) {
             self.faults = self.faults.saturating_add(1);
             return Err(ReadFailed);
         }
@@ -174,7 +181,7 @@ impl Sink for MemSink {
     {
         let call = self.calls;
         self.calls = call.saturating_add(1);
-        if self.used == self.cells.len() || self.failing.iter().any(|other| *other == call) {
+        if self.used == self.cells.len() || is_listed(&self.failing, call) {
             self.faults = self.faults.saturating_add(1);
             return Err(WriteFailed);
         }

@@ -1,12 +1,42 @@
 // Sources and sinks over readers and writers of std. They tell nothing of their bytes: what a file, a
 // pipe or a terminal holds is trusted.
-ghost use Rattle.std.specs.Prelude.{None};
+ghost use Rattle.std.specs.Prelude.{◌≡◌, ◌≤◌, ◌<◌, None, IfOk, length};
+ghost use Rattle.std.specs.Io.{ReadsAtMost};
 
 use crate::{ReadFailed, Sink, Source, WriteFailed};
 use std::io::{ErrorKind, Read, Write};
 
 // How often a call that a signal interrupts is made again before it counts as failed.
 const TRIES: u64 = u64::MAX;
+
+// One read, made again where a signal interrupts it.
+fn read_some<R: Read>(reader: &mut R, buf: &mut [u8]) -> Result<usize, ReadFailed>
+    ensures { ReadsAtMost result buf.new }
+{
+    for _ in 0..TRIES {
+        match reader.read(buf) {
+            Ok(count) => return Ok(count),
+            Err(error) if error.kind() == ErrorKind::Interrupted => {}
+            Err(_) => return Err(ReadFailed),
+        }
+    }
+    Err(ReadFailed)
+}
+
+// One write, made again where a signal interrupts it. No byte written is a failure.
+fn write_some<W: Write>(writer: &mut W, piece: &[u8]) -> Result<usize, WriteFailed>
+    ensures bound { IfOk result (λ count. count ≤ length piece.now) }
+    ensures some { IfOk result (λ count. 0 < length piece.now → 0 < count) }
+{
+    for _ in 0..TRIES {
+        match writer.write(piece) {
+            Ok(count) if count > 0 || piece.is_empty() => return Ok(count),
+            Err(error) if error.kind() == ErrorKind::Interrupted => {}
+            _ => return Err(WriteFailed),
+        }
+    }
+    Err(WriteFailed)
+}
 
 /// A reader of std that counts its faults. A read that a signal interrupts is made again and is no fault.
 #[derive(Drop)]
@@ -27,15 +57,13 @@ impl<R: Read> Source for IoSource<R> {
     ghost faults = { λ s. s.faults };
 
     fn take(&mut self, buf: &mut [u8]) -> Result<usize, ReadFailed> {
-        for _ in 0..TRIES {
-            match self.reader.read(buf) {
-                Ok(count) => return Ok(count),
-                Err(error) if error.kind() == ErrorKind::Interrupted => {}
-                Err(_) => break,
+        match read_some(&mut self.reader, buf) {
+            Ok(count) => Ok(count),
+            Err(ReadFailed) => {
+                self.faults = self.faults.saturating_add(1);
+                Err(ReadFailed)
             }
         }
-        self.faults = self.faults.saturating_add(1);
-        Err(ReadFailed)
     }
 }
 
@@ -52,18 +80,17 @@ impl<W: Write> IoSink<W> {
         IoSink { writer, faults: 0 }
     }
 
-    // One write and a flush, or nothing where either failed.
-    fn wrote(&mut self, piece: &[u8]) -> Option<usize> {
-        for _ in 0..TRIES {
-            match self.writer.write(piece) {
-                Ok(count) if count > 0 || piece.is_empty() => {
-                    return self.writer.flush().ok().map(|()| count);
-                }
-                Err(error) if error.kind() == ErrorKind::Interrupted => {}
-                _ => break,
-            }
+    // A write and a flush.
+    fn wrote(&mut self, piece: &[u8]) -> Result<usize, WriteFailed>
+        ensures bound { IfOk result (λ count. count ≤ length piece.now) }
+        ensures some { IfOk result (λ count. 0 < length piece.now → 0 < count) }
+        ensures kept { self.new.faults ≡ self.old.faults }
+    {
+        let count = write_some(&mut self.writer, piece)?;
+        match self.writer.flush() {
+            Ok(()) => Ok(count),
+            Err(_) => Err(WriteFailed),
         }
-        None
     }
 }
 
@@ -73,10 +100,12 @@ impl<W: Write> Sink for IoSink<W> {
     ghost faults = { λ s. s.faults };
 
     fn give(&mut self, piece: &[u8]) -> Result<usize, WriteFailed> {
-        if let Some(count) = self.wrote(piece) {
-            return Ok(count);
+        match self.wrote(piece) {
+            Ok(count) => Ok(count),
+            Err(WriteFailed) => {
+                self.faults = self.faults.saturating_add(1);
+                Err(WriteFailed)
+            }
         }
-        self.faults = self.faults.saturating_add(1);
-        Err(WriteFailed)
     }
 }
