@@ -1,0 +1,5 @@
+pub mod Filled
+pub mod PositionFacts
+mod StandardFacts
+pub mod Sums
+pub mod Words

@@ -1,0 +1,14 @@
+//! The text of a report, line by line.
+//!
+//! An item is what one line says; `push_item` appends exactly its line. The text of an item is a
+//! definition on its fields: the line's number, then each field behind one space, then a line feed.
+//! Read `items` for what the lines say, `specs/Report.antt` for how they are spelled, and `lines` for
+//! the code, one function a kind of line.
+#![tactic(auto)]
+
+mod fields;
+mod items;
+mod lines;
+
+pub use items::{Bad, CauseWord, Item};
+pub use lines::push_item;

@@ -1,0 +1,9 @@
+pub mod Lists
+pub mod Orders
+pub mod Queues
+pub mod StepFacts
+pub mod Worklists
+pub mod FoundFacts
+pub mod WayFacts
+pub mod PartFacts
+pub mod Unique

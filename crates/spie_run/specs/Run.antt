@@ -1,0 +1,64 @@
+-- What a run answers.
+use Rattle.std.specs.Prelude.{ℕ, ◌+◌, ◌<◌, ◌≤◌, ◌≡◌, ◌⊎◌, List, length, Some, None}
+use Rattle.std.specs.declared.option.Option.{Option}
+use Rattle.std.specs.Io.KnownBytes.{Consumes, Appends, IsAtEnd}
+use Rattle.spie_base.specs.Causes.{Rose}
+use Rattle.spie_base.specs.Transfer.{Stands, TookCount}
+use Rattle.spie_base.specs.declared.Status.{Status}
+use Rattle.spie_base.specs.declared.Status.TheVariants as status
+use Rattle.trace_format.specs.Fault.{IsFault}
+use Rattle.trace_format.specs.Limits.{most_bytes}
+use Rattle.trace_format.specs.Trace.{IsTrace}
+use Rattle.trace_format.specs.declared.Trace.{Trace}
+use Rattle.trace_format.specs.declared.TraceRefused.{TraceRefused}
+use Rattle.trace_history.specs.Replay.{IsReplayed}
+use Rattle.trace_history.specs.declared.Totals.{Totals}
+use Rattle.trace_replay.specs.Built.{first_unbuilt_of}
+use Rattle.spie_run.specs.Refusals.{fault_text, unbuilt_text}
+
+-- the input is a trace, and the output is the report of a replay of it by one worker
+pub record Reports (input output : List ℕ) : Type 0 where
+  pub trace : Trace
+  pub totals : Totals
+  pub read : IsTrace input trace
+  pub built : first_unbuilt_of trace.lines ≡ None
+  pub replayed : IsReplayed trace output totals
+
+-- a trace with a line that can't be replayed yet, which is the first such
+pub record IsUnbuilt (input : List ℕ) (line : ℕ) : Type 0 where
+  pub trace : Trace
+  pub read : IsTrace input trace
+  pub first : first_unbuilt_of trace.lines ≡ Some line
+
+-- the input is no trace, or one that can't be replayed yet, and the output says so
+abbrev pub Refuses : (input output : List ℕ) → Type 0
+Refuses input output =
+    ((fault : TraceRefused) × IsFault input fault × (output ≡ fault_text fault)) ⊎ ((line : ℕ) × IsUnbuilt input line × (output ≡ unbuilt_text line))
+
+-- what is written at the end of a run that read its input
+abbrev pub Answers : Status → (input output : List ℕ) → Type 0
+Answers status.Done input output = Reports input output
+Answers status.TraceRefused input output = Refuses input output
+Answers _ input output = ⊥
+
+-- the same of a trace that was read
+abbrev pub AnswersTrace : Status → Trace → (output : List ℕ) → Type 0
+AnswersTrace status.Done trace output = (first_unbuilt_of trace.lines ≡ None) × ((totals : Totals) × IsReplayed trace output totals)
+AnswersTrace status.TraceRefused trace output = (line : ℕ) × (first_unbuilt_of trace.lines ≡ Some line) × (output ≡ unbuilt_text line)
+AnswersTrace _ trace output = ⊥
+
+-- the input was read to its end, or one byte past its limit
+abbrev pub IsReadOut : (before after : Option (List ℕ)) → Type 0
+IsReadOut before after = IsAtEnd after ⊎ TookCount before after (λ count. count ≡ most_bytes + 1)
+
+-- a text is written whole, or a front of it stands and the sink has failed
+pub record Delivered (want answer : Status) (before after : Option (List ℕ)) (text : List ℕ) (faults now : ℕ) : Type 0 where
+  pub later : faults ≤ now
+  pub whole : (answer ≡ want) × Appends before after text × (now ≡ faults) ⊎ (answer ≡ status.WriteFault) × Stands before after text × Rose faults now
+
+-- the statuses of a run in which nothing failed
+abbrev pub IsSettled : Status → Type 0
+IsSettled status.Done = Unit {0}
+IsSettled status.TraceRefused = Unit {0}
+IsSettled status.NoMemory = Unit {0}
+IsSettled _ = ⊥

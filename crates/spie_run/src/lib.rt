@@ -1,0 +1,13 @@
+//! The run of the program: its words, what it reads and what it writes.
+//!
+//! Its central contract is that of `run`, which carries the promise of the whole program: where it
+//! answers `Done`, the bytes that were read are a trace, and the bytes that were written are the report
+//! of a replay of it, by the definitions of `trace_format` and `trace_history`; each other status comes
+//! with its cause. Read `specs/Run.antt` first, then `top`.
+#![tactic(auto)]
+
+mod refusals;
+mod top;
+mod words;
+
+pub use top::run;

@@ -1,0 +1,119 @@
+// The run of the program.
+ghost use Rattle.std.specs.Prelude.{◌≡◌, ◌≤◌, ◌↔◌, ◌⊎◌, List, ℕ, length, map, string_bytes, IfOk, IfSome, false, true};
+ghost use Rattle.std.specs.Io.KnownBytes.{Appends, IsAtEnd};
+ghost use Rattle.spie_base.specs.declared.Status.{Status};
+ghost use Rattle.spie_base.specs.Causes.{Rose};
+ghost use Rattle.spie_base.specs.Transfer.{Stands};
+ghost use Rattle.trace_format.specs.Sound.{IsSound};
+ghost use Rattle.spie_run.specs.Words.{is_replay};
+ghost use Rattle.spie_run.specs.Run.{Reports, Refuses, Answers, AnswersTrace, IsReadOut, Delivered, IsSettled};
+
+use crate::refusals::{fault_text, refusal_text};
+use crate::words::is_replay;
+use spie_base::{NoMemory, ReadRefused, Sink, Source, Status, WriteFailed, read_all, write_all};
+use std::alloc::Global;
+use std::sync::Wait;
+use std::thread::Threads;
+use trace_format::{ReadTraceRefused, Trace, read_trace};
+use trace_replay::{first_unbuilt, replay_alone};
+
+// The greatest number of bytes of an input.
+const MOST: usize = 67108864;
+
+// What is written where there are more.
+const TOO_LONG: &[u8] = b"refused 0 too-long\n";
+
+// What is written, and the status that goes with it.
+#[derive(Drop)]
+struct Reply {
+    status: Status,
+    text: Vec<u8>,
+}
+
+fn answer_trace(alloc: Global, trace: &Trace) -> Result<Reply, NoMemory>
+    requires { IsSound trace.now }
+    ensures { IfOk result (λ reply. AnswersTrace reply.status trace.now reply.text.items) }
+{
+    match first_unbuilt(trace) {
+        Some(line) => Ok(Reply {
+            status: Status::TraceRefused,
+            text: refusal_text(alloc, line, b"unbuilt")?,
+        }),
+        None => Ok(Reply {
+            status: Status::Done,
+            text: replay_alone(alloc, trace)?.report.into_vec(),
+        }),
+    }
+}
+
+fn answer(alloc: Global, text: &[u8]) -> Result<Reply, NoMemory>
+    ensures { IfOk result (λ reply. Answers reply.status text.now reply.text.items) }
+{
+    match read_trace(alloc, text) {
+        Ok(trace) => {
+            let reply = answer_trace(alloc, &trace)?;
+            Ok(reply)
+        }
+        Err(ReadTraceRefused::Refused(fault)) => Ok(Reply {
+            status: Status::TraceRefused,
+            text: fault_text(alloc, &fault)?,
+        }),
+        Err(ReadTraceRefused::NoMemory) => Err(NoMemory),
+    }
+}
+
+// Writes the text of an answer.
+fn deliver<K: Sink>(sink: &mut K, status: Status, text: &[u8]) -> Status
+    ensures { Delivered status result (K.written sink.old) (K.written sink.new) text.now (K.faults sink.old) (K.faults sink.new) }
+{
+    match write_all(sink, text) {
+        Ok(()) => status,
+        Err(WriteFailed) => Status::WriteFault,
+    }
+}
+
+/// Reads a whole input, replays it and writes the whole report; `rt` and `alloc` are those of the
+/// program. The words `replay 1` are the only form that is known, and all others are `Usage`.
+///
+/// Nothing is written before the input was read whole and the output made whole. Takes the input, what
+/// the trace keeps of it, and the report.
+pub fn run<R: Threads + Wait + Sync, S: Source, K: Sink>(
+    rt: &R,
+    alloc: Global,
+    words: &[String],
+    source: &mut S,
+    sink: &mut K,
+) -> Status
+    // What each status tells of the input and the output.
+    ensures done { result ≡ Status.Done → IfSome (S.left source.old) (λ input.
+        (output : List ℕ) × Reports input output × Appends (K.written sink.old) (K.written sink.new) output) }
+    ensures refused { result ≡ Status.TraceRefused → IfSome (S.left source.old) (λ input.
+        (output : List ℕ) × Refuses input output × Appends (K.written sink.old) (K.written sink.new) output) }
+    ensures front { result ≡ Status.WriteFault → IfSome (S.left source.old) (λ input.
+        (status : Status) × (output : List ℕ) × Answers status input output × Stands (K.written sink.old) (K.written sink.new) output) }
+    ensures unwritten { (result ≡ Status.ReadFault ⊎ result ≡ Status.NoMemory) → sink.new ≡ sink.old }
+
+    // How far the input was read.
+    ensures ended { result ≡ Status.Done → IsAtEnd (S.left source.new) }
+    ensures read_out { result ≡ Status.TraceRefused → IsReadOut (S.left source.old) (S.left source.new) }
+
+    // When each status comes.
+    ensures usage { (result ≡ Status.Usage) ↔ (is_replay (map string_bytes words.now) ≡ false) }
+    ensures untouched { result ≡ Status.Usage → (source.new ≡ source.old) × (sink.new ≡ sink.old) }
+    ensures read_fault { result ≡ Status.ReadFault → Rose (S.faults source.old) (S.faults source.new) }
+    ensures write_fault { result ≡ Status.WriteFault → Rose (K.faults sink.old) (K.faults sink.new) }
+    ensures complete { is_replay (map string_bytes words.now) ≡ true → (Rose (S.faults source.old) (S.faults source.new) → ⊥) → (Rose (K.faults sink.old) (K.faults sink.new) → ⊥) → IsSettled result }
+{
+    if !is_replay(words) {
+        return Status::Usage;
+    }
+    match read_all(alloc, source, MOST) {
+        Ok(text) => match answer(alloc, &text) {
+            Ok(reply) => deliver(sink, reply.status, &reply.text),
+            Err(NoMemory) => Status::NoMemory,
+        },
+        Err(ReadRefused::TooLong) => deliver(sink, Status::TraceRefused, TOO_LONG),
+        Err(ReadRefused::Failed) => Status::ReadFault,
+        Err(ReadRefused::NoMemory) => Status::NoMemory,
+    }
+}

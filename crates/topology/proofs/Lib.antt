@@ -1,0 +1,6 @@
+pub mod Places
+pub mod Index
+pub mod OneMore
+pub mod Ends
+pub mod Sound
+pub mod Causes

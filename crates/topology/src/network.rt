@@ -1,0 +1,233 @@
+// Routers, regions and links.
+ghost use Rattle.std.specs.Prelude.{◌≡◌, ℕ, ◌<◌, ◌↔◌, None, Some, IfSome, IfOk, OnOk, IfErr, OnErr, IsOkAnd, IsTrue, length, slice_get, slice_index};
+ghost use Rattle.std.specs.List.{Contains};
+ghost use Rattle.std.specs.List.Sorted.{IsStrictlySortedBy};
+ghost use Rattle.spie_base.specs.Order.{router_cmp};
+ghost use Rattle.spie_base.specs.declared.RouterId.{RouterId};
+ghost use Rattle.topology.specs.Layout.{empty, router_named, is_linked, with_router, with_link, with_ends, IsSound};
+ghost use Rattle.topology.specs.Refusals as refusals;
+ghost use Rattle.topology.specs.Refusals.{fault_of};
+
+use crate::{TopologyRefused, names, near};
+use spie_base::{List, NoMemory, RouterId};
+use std::alloc::Global;
+use std::collections::HashMap;
+use std::marker::Model;
+
+const MOST_ROUTERS: usize = 64;
+
+const MOST_REGIONS: usize = 16;
+
+const MOST_LINKS: usize = 512;
+
+/// Routers with their names and regions, and the links between them: at most 64 routers, 16 regions
+/// and 512 links. Contracts see it as its lists.
+#[derive(Debug, Drop)]
+pub struct Topology {
+    names: Vec<List<u8>>,
+    region_names: Vec<List<u8>>,
+    regions: Vec<u32>,
+    links: Vec<(u32, u32)>,
+    // each router by its name
+    index: HashMap<Vec<u8>, RouterId>,
+    // by router, those linked with it
+    near: Vec<List<RouterId>>,
+}
+
+impl Model for Topology {
+    ghost use Rattle.topology.specs.Layout.{Layout, layout_code};
+    ghost use Rattle.topology.specs.Wired.{layout_of, IsWired};
+
+    ghost Value = { Layout };
+
+    ghost coded = { layout_code };
+
+    ghost view = { layout_of };
+
+    ghost invariant = { IsWired };
+}
+
+impl Topology {
+    /// No routers.
+    pub fn new(alloc: Global) -> Result<Topology, NoMemory>
+        ensures { IsOkAnd result (λ topology. topology ≡ empty) }
+    {
+        Ok(Topology {
+            names: Vec::new(alloc),
+            region_names: Vec::new(alloc),
+            regions: Vec::new(alloc),
+            links: Vec::new(alloc),
+            index: HashMap::new(alloc),
+            near: Vec::new(alloc),
+        })
+    }
+
+    /// The router with a name. Costs one look-up by hash.
+    pub fn find(&self, name: &[u8]) -> Option<RouterId>
+        ensures exact { result ≡ router_named self.now.names name.now }
+        ensures found { IfSome result (λ id. slice_get self.now.names id.number ≡ Some name.now) }
+        ensures exists { IfSome result (λ id. id.number < length self.now.names) }
+    {
+        self.index.get(name).copied()
+    }
+
+    /// A router's name.
+    pub fn name(&self, id: RouterId) -> &[u8]
+        requires { id.number < length self.now.names }
+        ensures { slice_get self.now.names id.number ≡ Some result.now }
+    {
+        self.names[id.number as usize].items()
+    }
+
+    /// The number of a router's region.
+    pub fn region(&self, id: RouterId) -> u32
+        requires { id.number < length self.now.names }
+        ensures exact { result ≡ slice_index self.now.regions id.number }
+        ensures exists { result < length self.now.region_names }
+    {
+        self.regions[id.number as usize]
+    }
+
+    /// How many routers there are. What holds of every topology is said here.
+    pub fn routers(&self) -> u32
+        ensures count { result ≡ length self.now.names }
+        ensures sound { IsSound self.now }
+    {
+        let count = self.names.len();
+        count as u32
+    }
+
+    /// How many regions there are.
+    pub fn regions(&self) -> u32
+        ensures { result ≡ length self.now.region_names }
+    {
+        let count = self.region_names.len();
+        count as u32
+    }
+
+    /// The routers linked with a router, ascending.
+    pub fn linked(&self, id: RouterId) -> &[RouterId]
+        requires { id.number < length self.now.names }
+        ensures ordered { IsStrictlySortedBy router_cmp result.now }
+        ensures same { (q : RouterId) → Contains result.now q ↔ IsTrue (is_linked self.now.links id.number q.number) }
+        ensures exist { (q : RouterId) → Contains result.now q → q.number < length self.now.names }
+    {
+        self.near[id.number as usize].items()
+    }
+
+    /// Adds a router. Routers are numbered from 0, and regions too, as they first appear. After an `Err`
+    /// nothing has changed.
+    pub fn add_router(
+        &mut self,
+        alloc: Global,
+        name: &[u8],
+        region: &[u8],
+    ) -> Result<RouterId, TopologyRefused>
+        ensures number { IfOk result (λ id. id.number ≡ length self.old.names) }
+        ensures added { OnOk result (self.new ≡ with_router self.old name.now region.now) }
+        ensures welcome { OnOk result (refusals.router_refusal self.old name.now region.now ≡ None) }
+        ensures refused { IfErr result (λ refused. refusals.router_refusal self.old name.now region.now ≡ fault_of refused) }
+        ensures same { OnErr result (self.new ≡ self.old) }
+    {
+        if let Some(refused) = self.router_refusal(name, region) {
+            return Err(refused);
+        }
+        let number = self.names.len();
+        self.push_router(alloc, name, region)?;
+        Ok(RouterId {
+            number: number as u32,
+        })
+    }
+
+    // Why a router is refused.
+    #[tactic(auto, unfolding(crate::specs::Refusals::router_refusal))]
+    fn router_refusal(&self, name: &[u8], region: &[u8]) -> Option<TopologyRefused>
+        ensures { result ≡ refusals.router_refusal self.now name.now region.now }
+    {
+        if self.find(name).is_some() {
+            return Some(TopologyRefused::DoubleName);
+        }
+        if self.names.len() >= MOST_ROUTERS {
+            return Some(TopologyRefused::TooMany);
+        }
+        if names::place_of(&self.region_names, region) >= MOST_REGIONS {
+            return Some(TopologyRefused::TooMany);
+        }
+        None
+    }
+
+    fn push_router(&mut self, alloc: Global, name: &[u8], region: &[u8]) -> Result<(), NoMemory>
+        requires { refusals.router_refusal self.old name.now region.now ≡ None }
+        ensures added { OnOk result (self.new ≡ with_router self.old name.now region.now) }
+        ensures same { OnErr result (self.new ≡ self.old) }
+    {
+        let home = names::place_of(&self.region_names, region);
+        let copy = names::copy_of(alloc, name)?;
+        let region = names::copy_of(alloc, region)?;
+        let key = Vec::from_slice(alloc, name)?;
+        self.names.reserve(1)?;
+        self.region_names.reserve(1)?;
+        self.regions.reserve(1)?;
+        self.near.reserve(1)?;
+        let number = self.names.len() as u32;
+        self.index.insert(key, RouterId { number })?;
+        self.names.push(copy).unwrap();
+        self.regions.push(home as u32).unwrap();
+        names::add_at(&mut self.region_names, home, region);
+        self.near.push(List::of(Vec::new(alloc))).unwrap();
+        Ok(())
+    }
+
+    /// Adds a link. After an `Err` nothing has changed.
+    pub fn add_link(&mut self, alloc: Global, a: &[u8], b: &[u8]) -> Result<(), TopologyRefused>
+        ensures added { OnOk result (self.new ≡ with_link self.old a.now b.now) }
+        ensures welcome { OnOk result (refusals.link_refusal self.old a.now b.now ≡ None) }
+        ensures refused { IfErr result (λ refused. refusals.link_refusal self.old a.now b.now ≡ fault_of refused) }
+        ensures same { OnErr result (self.new ≡ self.old) }
+    {
+        let Some(first) = self.find(a) else {
+            return Err(TopologyRefused::NoSuchName);
+        };
+        let Some(second) = self.find(b) else {
+            return Err(TopologyRefused::NoSuchName);
+        };
+        if let Some(refused) = self.ends_refusal(first, second) {
+            return Err(refused);
+        }
+        self.push_link(alloc, first, second)?;
+        Ok(())
+    }
+
+    // Why a link of two routers is refused.
+    #[tactic(auto, unfolding(crate::specs::Refusals::ends_refusal))]
+    fn ends_refusal(&self, a: RouterId, b: RouterId) -> Option<TopologyRefused>
+        requires { a.number < length self.now.names }
+        ensures { result ≡ refusals.ends_refusal self.now a.number b.number }
+    {
+        if a == b {
+            Some(TopologyRefused::SelfLink)
+        } else if self.linked(a).contains(&b) {
+            Some(TopologyRefused::DoubleLink)
+        } else if self.links.len() >= MOST_LINKS {
+            Some(TopologyRefused::TooMany)
+        } else {
+            None
+        }
+    }
+
+    fn push_link(&mut self, alloc: Global, a: RouterId, b: RouterId) -> Result<(), NoMemory>
+        requires a_exists { a.number < length self.old.names }
+        requires b_exists { b.number < length self.old.names }
+        requires free { refusals.ends_refusal self.old a.number b.number ≡ None }
+        ensures added { OnOk result (self.new ≡ with_ends self.old a.number b.number) }
+        ensures same { OnErr result (self.new ≡ self.old) }
+    {
+        let (first, second) = (a.number as usize, b.number as usize);
+        let near_first = near::with_one(alloc, self.near[first].items(), b)?;
+        let near_second = near::with_one(alloc, self.near[second].items(), a)?;
+        self.links.push((a.number, b.number))?;
+        self.near[first] = near_first;
+        self.near[second] = near_second;
+        Ok(())
+    }
+}

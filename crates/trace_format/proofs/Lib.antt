@@ -1,0 +1,14 @@
+pub mod Again
+pub mod Complete
+pub mod Cuts
+pub mod DecimalFields
+pub mod Declared
+pub mod Faulty
+pub mod FieldForms
+pub mod Growing
+pub mod Lines
+pub mod Refusals
+pub mod Sole
+pub mod Sound
+pub mod Standing
+pub mod Taken

@@ -1,0 +1,13 @@
+pub mod Answers
+pub mod Before
+pub mod Fault
+pub mod Limits
+pub mod Outcomes
+pub mod Reading
+pub mod Said
+pub mod Sound
+pub mod Spelling
+pub mod Table
+pub mod Text
+pub mod Trace
+pub mod Words

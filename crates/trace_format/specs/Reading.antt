@@ -1,0 +1,301 @@
+-- Reading a trace, line by line.
+use Rattle.std.specs.Prelude.{ℕ, ◌+◌, ◌/◌, ◌^◌, List, [], ◌∷◌, ◌++◌, length, Bool, ◌&&◌, ◌==◌, if◌then◌else◌, nat_le, nat_lt, Result, Ok, Err, codes}
+use Rattle.std.specs.Str.{bytes_eq}
+use Rattle.std.specs.declared.option.Option.{Option}
+use Rattle.std.specs.declared.option.Option.TheVariants.{None, Some}
+use Rattle.std.specs.Int.{w64, from_be_bytes}
+use Rattle.hex.specs.Hex.{decode_sized}
+use Rattle.hex.specs.declared.error.FromHexError.{FromHexError}
+use Rattle.packet_signature.specs.Signature.{signature_of}
+use Rattle.packet_signature.specs.declared.rows.Kind.{Kind}
+use Rattle.packet_signature.specs.declared.rows.Kind.TheVariants as kind
+use Rattle.spie_base.specs.Decimal.{number_in as decimal_in}
+use Rattle.spie_base.specs.declared.types.Rules.{Rules}
+use Rattle.topology.specs.Layout.{with_router, with_link}
+use Rattle.trace_format.specs.Before.{Known, known_of, no_rules, number_of, whats, added}
+use Rattle.trace_format.specs.Fault.{too_long}
+use Rattle.trace_format.specs.Limits.{most_bytes, most_line_bytes, most_digits, most_time, most_number}
+use Rattle.trace_format.specs.Outcomes.{◌>>=◌}
+use Rattle.trace_format.specs.Said.{Said}
+use Rattle.trace_format.specs.Said as said
+use Rattle.trace_format.specs.Table.{first_broken}
+use Rattle.trace_format.specs.Text.{fields, lines, is_name}
+use Rattle.trace_format.specs.Trace.{trace_of}
+use Rattle.trace_format.specs.Words.{word_text, may_stand, is_over}
+use Rattle.trace_format.specs.declared.items.Trace.{Trace}
+use Rattle.trace_format.specs.declared.refused.TraceRefused.{TraceRefused}
+use Rattle.trace_format.specs.declared.refused.WhyRefused.{WhyRefused}
+use Rattle.trace_format.specs.declared.refused.WhyRefused.TheVariants as why
+use Rattle.trace_format.specs.declared.words.Stage.TheVariants as stage
+use Rattle.trace_format.specs.declared.words.Word.{Word}
+use Rattle.trace_format.specs.declared.words.Word.TheVariants as word
+
+abbrev pub number_by : Option ℕ → ℕ → Result ℕ WhyRefused
+number_by None least = Err why.Field
+number_by (Some n) least = if nat_lt n least then Err why.Field else Ok n
+
+-- a field that is a number from least to most
+unfoldable pub number : List ℕ → ℕ → ℕ → Result ℕ WhyRefused
+number field least most = number_by (decimal_in field most) least
+
+abbrev pub base_by : Result (List ℕ) FromHexError → Result ℕ WhyRefused
+base_by (Ok bytes) = Ok (from_be_bytes w64 bytes)
+base_by (Err e) = Err why.Field
+
+-- 16 hex digits
+unfoldable pub base_of : List ℕ → Result ℕ WhyRefused
+base_of field = base_by (decode_sized field 8)
+
+abbrev pub bytes_by : Result (List ℕ) FromHexError → Result (List ℕ) WhyRefused
+bytes_by (Ok bytes) = Ok bytes
+bytes_by (Err e) = Err why.Field
+
+abbrev pub is_hex_size : List ℕ → Bool
+is_hex_size field = nat_le 2 (length field) && nat_le (length field) most_digits
+
+-- the hex digits of 1 to 1,500 bytes
+unfoldable pub bytes_in : List ℕ → Result (List ℕ) WhyRefused
+bytes_in field = if is_hex_size field then bytes_by (decode_sized field (length field / 2)) else Err why.Field
+
+unfoldable pub kind_in : List ℕ → Result Kind WhyRefused
+kind_in field =
+    if bytes_eq field (codes "frag") then Ok kind.Frag else
+    (if bytes_eq field (codes "nat") then Ok kind.Nat else
+    (if bytes_eq field (codes "icmp") then Ok kind.Icmp else
+    (if bytes_eq field (codes "ipip") then Ok kind.Ipip else
+    (if bytes_eq field (codes "decap") then Ok kind.Decap else Err why.Field))))
+
+-- whether a field is a name
+unfoldable pub name_in : List ℕ → Result (Unit {0}) WhyRefused
+name_in field = if is_name field then Ok tt else Err why.Field
+
+unfoldable pub front_in : (k n limit span : List ℕ) → Result Rules WhyRefused
+front_in k n limit span = do
+  k ← number k 1 8
+  n ← number n 6 16
+  limit ← number limit 1 (2 ^ n)
+  span ← number span 1 most_time
+  Ok (record no_rules { k = k; n = n; limit = limit; span = span })
+
+unfoldable pub times_in : Rules → (keep age width base : List ℕ) → Result Rules WhyRefused
+times_in rules keep age width base = do
+  keep ← number keep 1 32
+  age ← number age 1 most_time
+  width ← number width 0 most_time
+  base ← base_of base
+  Ok (record rules { keep = keep; age = age; width = width; base = base })
+
+unfoldable pub back_in : Rules → List (List ℕ) → Result Rules WhyRefused
+back_in rules (keep ∷ age ∷ width ∷ base ∷ []) = times_in rules keep age width base
+back_in rules _ = Err why.Fields
+
+unfoldable pub shape_in : List (List ℕ) → Result Rules WhyRefused
+shape_in (k ∷ n ∷ limit ∷ span ∷ back) = if length back == 4 then (front_in k n limit span >>= (λ rules. back_in rules back)) else Err why.Fields
+shape_in _ = Err why.Fields
+
+-- what is known with one more line
+unfoldable pub grown : Known → Said → Known
+grown known said.Version = record known { stage = stage.Shape; read = known.read + 1 }
+grown known (said.Shape rules) = record known { stage = stage.Declarations; read = known.read + 1; rules = rules }
+grown known (said.Router name region) = record known { stage = stage.Declarations; read = known.read + 1; layout = with_router known.layout name region }
+grown known (said.Link one other) = record known { stage = stage.Declarations; read = known.read + 1; layout = with_link known.layout one other }
+grown known said.Begin = record known { stage = stage.Body; read = known.read + 1 }
+grown known (said.Packet bytes) = record known { stage = stage.Body; read = known.read + 1; sigs = known.sigs ++ signature_of bytes ∷ [] }
+grown known (said.Fwd name packet) = record known { stage = stage.Body; read = known.read + 1; records = known.records + 1; lines = added known.lines (known.read + 1) (whats known.layout (said.Fwd name packet)) }
+grown known (said.Xf name kind old new) = record known { stage = stage.Body; read = known.read + 1; records = known.records + 1; lines = added known.lines (known.read + 1) (whats known.layout (said.Xf name kind old new)) }
+grown known (said.Rotate name) = record known { stage = stage.Body; read = known.read + 1; rotates = known.rotates + 1; lines = added known.lines (known.read + 1) (whats known.layout (said.Rotate name)) }
+grown known (said.Archive name) = record known { stage = stage.Body; read = known.read + 1; archived = known.archived ++ number_of known.layout name ∷ []; lines = added known.lines (known.read + 1) (whats known.layout (said.Archive name)) }
+grown known (said.Watch name packet) = record known { stage = stage.Body; read = known.read + 1; lines = added known.lines (known.read + 1) (whats known.layout (said.Watch name packet)) }
+grown known (said.Tick time) = record known { stage = stage.Body; read = known.read + 1; ticks = known.ticks + 1; clock = time; archived = []; lines = added known.lines (known.read + 1) (whats known.layout (said.Tick time)) }
+grown known (said.Query name packet time) = record known { stage = stage.Body; read = known.read + 1; queries = known.queries + 1; archived = []; lines = added known.lines (known.read + 1) (whats known.layout (said.Query name packet time)) }
+grown known said.End = record known { stage = stage.Over; read = known.read + 1; lines = added known.lines (known.read + 1) (whats known.layout said.End) }
+
+abbrev pub judged_by : Option WhyRefused → Result (Unit {0}) WhyRefused
+judged_by None = Ok tt
+judged_by (Some why) = Err why
+
+unfoldable pub judged : Known → Said → Result (Unit {0}) WhyRefused
+judged known said = judged_by (first_broken known said)
+
+-- one more line, if no rule refuses what it says
+unfoldable pub step : Known → Said → Result Known WhyRefused
+step known said = judged known said >>= (λ fits. Ok (grown known said))
+
+unfoldable pub version_fields : Known → List ℕ → Result Known WhyRefused
+version_fields known version = if bytes_eq version (codes "1") then step known said.Version else Err why.Field
+
+unfoldable pub version_line : Known → List (List ℕ) → Result Known WhyRefused
+version_line known (version ∷ []) = version_fields known version
+version_line known _ = Err why.Fields
+
+unfoldable pub shape_line : Known → List (List ℕ) → Result Known WhyRefused
+shape_line known rest = do
+  rules ← shape_in rest
+  step known (said.Shape rules)
+
+unfoldable pub router_fields : Known → (name region : List ℕ) → Result Known WhyRefused
+router_fields known name region = do
+  fits ← name_in name
+  fits ← name_in region
+  step known (said.Router name region)
+
+unfoldable pub router_line : Known → List (List ℕ) → Result Known WhyRefused
+router_line known (name ∷ region ∷ []) = router_fields known name region
+router_line known _ = Err why.Fields
+
+unfoldable pub link_fields : Known → (one other : List ℕ) → Result Known WhyRefused
+link_fields known one other = do
+  fits ← name_in one
+  fits ← name_in other
+  step known (said.Link one other)
+
+unfoldable pub link_line : Known → List (List ℕ) → Result Known WhyRefused
+link_line known (one ∷ other ∷ []) = link_fields known one other
+link_line known _ = Err why.Fields
+
+unfoldable pub begin_line : Known → List (List ℕ) → Result Known WhyRefused
+begin_line known [] = step known said.Begin
+begin_line known _ = Err why.Fields
+
+unfoldable pub packet_line : Known → List (List ℕ) → Result Known WhyRefused
+packet_line known (digits ∷ []) = do
+  bytes ← bytes_in digits
+  step known (said.Packet bytes)
+packet_line known _ = Err why.Fields
+
+unfoldable pub fwd_fields : Known → (name packet : List ℕ) → Result Known WhyRefused
+fwd_fields known name packet = do
+  fits ← name_in name
+  packet ← number packet 0 most_number
+  step known (said.Fwd name packet)
+
+unfoldable pub fwd_line : Known → List (List ℕ) → Result Known WhyRefused
+fwd_line known (name ∷ packet ∷ []) = fwd_fields known name packet
+fwd_line known _ = Err why.Fields
+
+unfoldable pub xf_fields : Known → (name kind old new : List ℕ) → Result Known WhyRefused
+xf_fields known name kind old new = do
+  fits ← name_in name
+  kind ← kind_in kind
+  old ← number old 0 most_number
+  new ← number new 0 most_number
+  step known (said.Xf name kind old new)
+
+unfoldable pub xf_line : Known → List (List ℕ) → Result Known WhyRefused
+xf_line known (name ∷ kind ∷ old ∷ new ∷ []) = xf_fields known name kind old new
+xf_line known _ = Err why.Fields
+
+unfoldable pub rotate_line : Known → List (List ℕ) → Result Known WhyRefused
+rotate_line known (name ∷ []) = do
+  fits ← name_in name
+  step known (said.Rotate name)
+rotate_line known _ = Err why.Fields
+
+unfoldable pub archive_line : Known → List (List ℕ) → Result Known WhyRefused
+archive_line known (name ∷ []) = do
+  fits ← name_in name
+  step known (said.Archive name)
+archive_line known _ = Err why.Fields
+
+unfoldable pub watch_fields : Known → (name packet : List ℕ) → Result Known WhyRefused
+watch_fields known name packet = do
+  fits ← name_in name
+  packet ← number packet 0 most_number
+  step known (said.Watch name packet)
+
+unfoldable pub watch_line : Known → List (List ℕ) → Result Known WhyRefused
+watch_line known (name ∷ packet ∷ []) = watch_fields known name packet
+watch_line known _ = Err why.Fields
+
+unfoldable pub tick_line : Known → List (List ℕ) → Result Known WhyRefused
+tick_line known (time ∷ []) = do
+  time ← number time 0 most_time
+  step known (said.Tick time)
+tick_line known _ = Err why.Fields
+
+unfoldable pub query_fields : Known → (name packet time : List ℕ) → Result Known WhyRefused
+query_fields known name packet time = do
+  fits ← name_in name
+  packet ← number packet 0 most_number
+  time ← number time 0 most_time
+  step known (said.Query name packet time)
+
+unfoldable pub query_line : Known → List (List ℕ) → Result Known WhyRefused
+query_line known (name ∷ packet ∷ time ∷ []) = query_fields known name packet time
+query_line known _ = Err why.Fields
+
+unfoldable pub end_line : Known → List (List ℕ) → Result Known WhyRefused
+end_line known [] = step known said.End
+end_line known _ = Err why.Fields
+
+-- the word that a field is
+unfoldable pub word_of : List ℕ → Option Word
+word_of field =
+    if bytes_eq field (word_text word.Fwd) then Some word.Fwd else
+    (if bytes_eq field (word_text word.Packet) then Some word.Packet else
+    (if bytes_eq field (word_text word.Xf) then Some word.Xf else
+    (if bytes_eq field (word_text word.Watch) then Some word.Watch else
+    (if bytes_eq field (word_text word.Tick) then Some word.Tick else
+    (if bytes_eq field (word_text word.Query) then Some word.Query else
+    (if bytes_eq field (word_text word.Rotate) then Some word.Rotate else
+    (if bytes_eq field (word_text word.Archive) then Some word.Archive else
+    (if bytes_eq field (word_text word.End) then Some word.End else
+    (if bytes_eq field (word_text word.Router) then Some word.Router else
+    (if bytes_eq field (word_text word.Link) then Some word.Link else
+    (if bytes_eq field (word_text word.Begin) then Some word.Begin else
+    (if bytes_eq field (word_text word.Shape) then Some word.Shape else
+    (if bytes_eq field (word_text word.Trace) then Some word.Trace else None)))))))))))))
+
+-- one more line, by its word and the fields behind it
+unfoldable pub line_by : Known → Word → List (List ℕ) → Result Known WhyRefused
+line_by known word.Trace rest = version_line known rest
+line_by known word.Shape rest = shape_line known rest
+line_by known word.Router rest = router_line known rest
+line_by known word.Link rest = link_line known rest
+line_by known word.Begin rest = begin_line known rest
+line_by known word.Packet rest = packet_line known rest
+line_by known word.Fwd rest = fwd_line known rest
+line_by known word.Xf rest = xf_line known rest
+line_by known word.Rotate rest = rotate_line known rest
+line_by known word.Archive rest = archive_line known rest
+line_by known word.Watch rest = watch_line known rest
+line_by known word.Tick rest = tick_line known rest
+line_by known word.Query rest = query_line known rest
+line_by known word.End rest = end_line known rest
+
+abbrev pub by_word : Known → Option Word → List (List ℕ) → Result Known WhyRefused
+by_word known None rest = Err why.Word
+by_word known (Some w) rest = if may_stand known.stage w then line_by known w rest else Err why.Word
+
+abbrev pub by_fields : Known → List (List ℕ) → Result Known WhyRefused
+by_fields known [] = Err why.Word
+by_fields known (w ∷ rest) = by_word known (word_of w) rest
+
+-- what is known with one more line, or the rule that the line breaks
+unfoldable pub read_line : Known → List ℕ → Result Known WhyRefused
+read_line known text = if nat_lt most_line_bytes (length text) then Err why.Length else by_fields known (fields text)
+
+abbrev pub refused : Known → WhyRefused → TraceRefused
+refused known why = record { line = known.read + 1; why = why }
+
+abbrev pub then_read : Known → Result Known WhyRefused → (Known → Result Known TraceRefused) → Result Known TraceRefused
+then_read known (Ok new) more = more new
+then_read known (Err why) more = Err (refused known why)
+
+-- behind the last line nothing stands
+unfoldable pub read_lines : Known → List (List ℕ) → Result Known TraceRefused
+read_lines known [] = Err (refused known why.Ending)
+read_lines known (last ∷ []) = if is_over known.stage then (if length last == 0 then Ok known else Err (refused known why.After)) else Err (refused known why.Ending)
+read_lines known (text ∷ next ∷ more) = if is_over known.stage then Err (refused known why.After) else then_read known (read_line known text) (λ new. read_lines new (next ∷ more))
+
+-- the whole text
+unfoldable pub known_in : List ℕ → Result Known TraceRefused
+known_in text = if nat_lt most_bytes (length text) then Err too_long else read_lines (known_of []) (lines text)
+
+abbrev pub trace_by : Result Known TraceRefused → Result Trace TraceRefused
+trace_by (Ok known) = Ok (trace_of known)
+trace_by (Err fault) = Err fault
+
+-- the trace that a text is, or its fault
+unfoldable pub read_of : List ℕ → Result Trace TraceRefused
+read_of text = trace_by (known_in text)

@@ -1,0 +1,26 @@
+//! Reads the text of a trace: the rules and the routers that it declares, its packets, and what it asks
+//! for, line by line.
+//!
+//! Its central contract is that of `read_trace`: a text is read exactly where it is a trace
+//! (`specs/Trace`), and refused exactly with its first fault (`specs/Fault`). `trace_or_fault` is the law
+//! that each text has one of the two, and only one. Read `specs/Spelling` for the form of each line,
+//! `specs/Table` for the rules on what it says and `specs/Before` for what they look at, then `reader`.
+#![tactic(auto)]
+
+mod draft;
+mod fields;
+mod items;
+mod law;
+mod limits;
+mod reader;
+mod refused;
+mod steps;
+#[cfg(test)]
+mod tests;
+mod text;
+mod words;
+
+pub use items::{Line, Trace, What};
+pub use law::trace_or_fault;
+pub use reader::read_trace;
+pub use refused::{ReadTraceRefused, TraceRefused, WhyRefused};

@@ -1,0 +1,92 @@
+// Reads the text of a trace.
+ghost use Rattle.std.specs.Prelude.{◌∷◌, [], ◌<◌, ◌^◌, length, IfOk, Ok, Err};
+ghost use Rattle.trace_format.specs.Answers.{Answers, RefusedWith};
+ghost use Rattle.trace_format.specs.Before.{known_of};
+ghost use Rattle.trace_format.specs.Fault.{IsFault};
+ghost use Rattle.trace_format.specs.Outcomes.{Reads};
+ghost use Rattle.trace_format.specs.Reading as reading;
+ghost use Rattle.trace_format.specs.Sound.{IsSound};
+ghost use Rattle.trace_format.specs.Text.{lines};
+ghost use Rattle.trace_format.specs.Trace.{IsTrace};
+ghost use Rattle.trace_format.specs.declared.items.Trace.{Trace};
+ghost use Rattle.trace_format.specs.declared.refused.TraceRefused.{TraceRefused};
+
+use crate::draft::Draft;
+use crate::items::Trace;
+use crate::limits::MOST_BYTES;
+use crate::refused::{ReadTraceRefused, TraceRefused, WhyRefused};
+use crate::steps::Stop;
+use crate::text::cut;
+use std::alloc::Global;
+
+// What stands behind the last line end.
+#[tactic(auto, unfolding(crate::specs::Reading::read_lines))]
+fn ended(draft: &Draft, last: &[u8]) -> Result<(), ReadTraceRefused>
+    requires { draft.now.read < 2 ^ 41 }
+    ensures { Reads (λ _. draft.now) result (reading.read_lines draft.now (last.now ∷ [])) }
+{
+    if !draft.stage().is_over() {
+        return Err(Stop::Rule(WhyRefused::Ending).at_line(draft.next_line()));
+    }
+    if !last.is_empty() {
+        return Err(Stop::Rule(WhyRefused::After).at_line(draft.next_line()));
+    }
+    Ok(())
+}
+
+fn started(alloc: Global) -> Result<Draft, ReadTraceRefused>
+    ensures { Reads (λ draft. draft) result (Ok (known_of [])) }
+{
+    match Draft::new(alloc) {
+        Ok(draft) => Ok(draft),
+        Err(_) => Err(ReadTraceRefused::NoMemory),
+    }
+}
+
+// Reads all lines of a text.
+fn read_lines(alloc: Global, text: &[u8]) -> Result<Draft, ReadTraceRefused>
+    requires { length text.now < 2 ^ 40 }
+    ensures { Reads (λ draft. draft) result (reading.read_lines (known_of []) (lines text.now)) }
+{
+    let mut draft = started(alloc)?;
+    let mut found = Vec::new(alloc);
+    let mut rest = text;
+    while let Some((front, after)) = cut(rest, b'\n') {
+        let line = draft.next_line();
+        if draft.stage().is_over() {
+            return Err(Stop::Rule(WhyRefused::After).at_line(line));
+        }
+        match draft.read_line(alloc, &mut found, front) {
+            Ok(()) => {}
+            Err(stop) => return Err(stop.at_line(line)),
+        }
+        rest = after;
+    }
+    ended(&draft, rest)?;
+    Ok(draft)
+}
+
+#[tactic(auto, unfolding(crate::specs::Reading::read_of, crate::specs::Reading::known_in))]
+fn read_text(alloc: Global, text: &[u8]) -> Result<Trace, ReadTraceRefused>
+    ensures { Reads (λ trace. trace) result (reading.read_of text.now) }
+{
+    if text.len() > MOST_BYTES {
+        return Err(Stop::Rule(WhyRefused::TooLong).at_line(0));
+    }
+    match read_lines(alloc, text) {
+        Ok(draft) => Ok(draft.into_trace()),
+        Err(end) => Err(end),
+    }
+}
+
+/// Reads the text of a trace, in one pass over its bytes. Memory is taken for what the trace keeps: 32
+/// bytes for a line behind `begin`, 28 for a packet.
+pub fn read_trace(alloc: Global, text: &[u8]) -> Result<Trace, ReadTraceRefused>
+    ensures trace { IfOk result (λ trace. IsTrace text.now trace) }
+    ensures sound { IfOk result IsSound }
+    ensures fault { RefusedWith result (λ fault. IsFault text.now fault) }
+    ensures each_trace { (trace : Trace) → IsTrace text.now trace → Answers result (Ok trace) }
+    ensures each_fault { (fault : TraceRefused) → IsFault text.now fault → Answers result (Err fault) }
+{
+    read_text(alloc, text)
+}

@@ -1,0 +1,9 @@
+pub mod Account
+pub mod History
+pub mod Laws
+pub mod Outcomes
+pub mod Pages
+pub mod Receipts
+pub mod Replay
+pub mod Report
+pub mod Sights

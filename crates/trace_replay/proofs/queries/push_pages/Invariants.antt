@@ -1,0 +1,9 @@
+use Rattle.std.proofs.Common.{◌≡◌, ◌++◌, map}
+use Rattle.std.specs.List.{flat_map}
+use Rattle.report_text.specs.Report.{item_text}
+use Rattle.trace_history.specs.Account.{below}
+use Rattle.trace_replay.specs.Printing.{first_page_item}
+use Rattle.trace_replay.proofs.queries.push_pages.Given as goal
+
+abbrev pub invariant-loop-router : goal.invariant-loop-router
+invariant-loop-router l = l.out.items ≡ l.fn.out.items ++ flat_map (item_text l.topology.names) (map (first_page_item l.line) (below l.router))

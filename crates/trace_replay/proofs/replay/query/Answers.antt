@@ -1,0 +1,22 @@
+use Rattle.std.proofs.Common.{◌≡◌, ◌<◌, ◌∙◌, refl, sym, subst, List, ℕ, length}
+use Rattle.std.specs.Bool.{IsTrue}
+use Rattle.topology.specs.Layout.{is_linked}
+use Rattle.reverse_flood.specs.Flood.{net_of, IsFlood}
+use Rattle.trace_replay.specs.declared.pages.OpenPage.{OpenPage}
+use Rattle.trace_replay.specs.Pages.{shows}
+use Rattle.trace_replay.proofs.Asked.{does_query, itself, never}
+use Rattle.trace_replay.proofs.Named.{graph_named}
+use Rattle.trace_replay.proofs.replay.query.Goals as goal
+
+pub answer-requires-clause-named : goal.answer-requires-clause-named
+answer-requires-clause-named c =
+    graph_named c.args.trace.now.topology.names (net_of shows itself never c.deref.result.now c.args.trace.now.topology) (record { router = c.args.router; sig = c.sig_of-sig.result }) c.in_ok-graph.graph
+    c.requires.exists (λ a b h. (c.routers-routers.ensures.sound.ends a b h).1) c.in_ok-graph.ensures.graph
+
+pub returns : goal.returns
+returns c =
+    let t = c.args.trace.now in
+    let F : List OpenPage → Type 0 = λ xs. IsFlood (net_of shows itself never xs t.topology) (record { router = c.args.router; sig = c.sig_of-sig.result }) c.in_ok-graph.graph in
+    does_query t c.args.line.now c.args.router c.args.packet c.sig_of-sig.result c.args.time c.in_ok-graph.graph c.args.state.now c.settle.new.state c.answer.new.state
+    c.requires.is c.sig_of-sig.ensures c.requires.exists (λ a b h. (c.routers-routers.ensures.sound.ends a b h).1)
+    (subst F c.deref.ensures.value c.in_ok-graph.ensures.graph) c.in_ok-settle.ensures c.in_ok-answer.ensures

@@ -1,0 +1,114 @@
+// The items of a report, printed.
+ghost use Rattle.std.specs.Prelude.{ℕ, ◌≡◌, ◌<◌, ◌++◌, OnOk, length, map};
+ghost use Rattle.std.specs.List.{All, flat_map};
+ghost use Rattle.reverse_flood.specs.declared.Node.{Node};
+ghost use Rattle.reverse_flood.specs.declared.Edge.{Edge};
+ghost use Rattle.report_text.specs.declared.Item.TheVariants.{NodeLine, EdgeLine, UnknownLine};
+ghost use Rattle.report_text.specs.Report.{item_text, IsNamed};
+ghost use Rattle.trace_history.specs.Report.{answer_item, graph_items};
+ghost use Rattle.trace_replay.specs.Printing.{entered_items, IsNodeNamed, IsEdgeNamed, IsGraphNamed};
+
+use crate::state::Receipt;
+use report_text::{Item, push_item};
+use reverse_flood::{Edge, Graph, Node};
+use spie_base::NoMemory;
+use topology::Topology;
+
+/// Appends the lines of receipts.
+pub fn push_receipts(
+    out: &mut Vec<u8>,
+    topology: &Topology,
+    receipts: &[Receipt],
+) -> Result<(), NoMemory>
+    ensures { OnOk result (out.new.items ≡ out.old.items ++ flat_map (item_text topology.now.names) (entered_items receipts.now)) }
+{
+    for receipt in receipts {
+        let item = Item::Entered {
+            line: receipt.line,
+            page: receipt.page,
+        };
+        push_item(out, topology, &item)?;
+    }
+    Ok(())
+}
+
+fn push_nodes(
+    out: &mut Vec<u8>,
+    topology: &Topology,
+    line: u64,
+    nodes: &[Node],
+) -> Result<(), NoMemory>
+    requires { All (IsNodeNamed topology.now.names) nodes.now }
+    ensures { OnOk result (out.new.items ≡ out.old.items ++ flat_map (item_text topology.now.names) (map (NodeLine line) nodes.now)) }
+{
+    for node in nodes {
+        push_item(out, topology, &Item::NodeLine { line, node: *node })?;
+    }
+    Ok(())
+}
+
+fn push_unknowns(
+    out: &mut Vec<u8>,
+    topology: &Topology,
+    line: u64,
+    nodes: &[Node],
+) -> Result<(), NoMemory>
+    requires { All (IsNodeNamed topology.now.names) nodes.now }
+    ensures { OnOk result (out.new.items ≡ out.old.items ++ flat_map (item_text topology.now.names) (map (UnknownLine line) nodes.now)) }
+{
+    for node in nodes {
+        push_item(out, topology, &Item::UnknownLine { line, node: *node })?;
+    }
+    Ok(())
+}
+
+fn push_edges(
+    out: &mut Vec<u8>,
+    topology: &Topology,
+    line: u64,
+    edges: &[Edge],
+) -> Result<(), NoMemory>
+    requires { All (IsEdgeNamed topology.now.names) edges.now }
+    ensures { OnOk result (out.new.items ≡ out.old.items ++ flat_map (item_text topology.now.names) (map (EdgeLine line) edges.now)) }
+{
+    for edge in edges {
+        push_item(out, topology, &Item::EdgeLine { line, edge: *edge })?;
+    }
+    Ok(())
+}
+
+fn push_answer(
+    out: &mut Vec<u8>,
+    topology: &Topology,
+    line: u64,
+    graph: &Graph,
+) -> Result<(), NoMemory>
+    ensures { OnOk result (out.new.items ≡ out.old.items ++ item_text topology.now.names (answer_item line graph.now)) }
+{
+    let answer = Item::Answer {
+        line,
+        nodes: graph.nodes.items().len() as u64,
+        edges: graph.edges.items().len() as u64,
+        unknown: graph.unknown.items().len() as u64,
+        clear: graph.clear.items().len() as u64,
+    };
+    push_item(out, topology, &answer)?;
+    Ok(())
+}
+
+/// Appends the lines of a graph.
+pub fn push_graph(
+    out: &mut Vec<u8>,
+    topology: &Topology,
+    line: u64,
+    graph: &Graph,
+) -> Result<(), NoMemory>
+    requires { IsGraphNamed topology.now.names graph.now }
+    ensures { OnOk result (out.new.items ≡ out.old.items ++ flat_map (item_text topology.now.names) (graph_items line graph.now)) }
+{
+    push_nodes(out, topology, line, graph.nodes.items())?;
+    push_edges(out, topology, line, graph.edges.items())?;
+    push_unknowns(out, topology, line, graph.unknown.items())?;
+    push_answer(out, topology, line, graph)?;
+    Ok(())
+}
