@@ -1,5 +1,5 @@
 -- How the lines of a report are spelled.
-use Rattle.std.specs.Prelude.{ℕ, ◌+◌, ◌<◌, ◌≡◌, List, [], ◌∷◌, ◌++◌, length, codes, map, slice_index_or, decimal, Some, None}
+use Rattle.std.specs.Prelude.{ℕ, ◌<◌, List, [], ◌∷◌, ◌++◌, length, codes, slice_index_or, decimal, Some, None}
 use Rattle.std.specs.declared.option.Option.{Option}
 use Rattle.std.specs.List.{flat_map}
 use Rattle.hex.specs.Hex.{encode_lower}
@@ -8,7 +8,6 @@ use Rattle.spie_base.specs.declared.RouterId.{RouterId}
 use Rattle.spie_base.specs.declared.PageNo.{PageNo}
 use Rattle.spie_base.specs.declared.PageRange.{PageRange}
 use Rattle.reverse_flood.specs.declared.Node.{Node}
-use Rattle.reverse_flood.specs.declared.Edge.{Edge}
 use Rattle.report_text.specs.declared.items.Bad.{Bad}
 use Rattle.report_text.specs.declared.items.CauseWord.{CauseWord}
 use Rattle.report_text.specs.declared.items.CauseWord.TheVariants.{Failed, Other, Absent, Broken}

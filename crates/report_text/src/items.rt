@@ -79,7 +79,8 @@ pub enum Item {
     Query {
         line: u64,
     },
-    /// A router's pages of a query's window. The unreadable ones ascend by their pages, and the used ones ascend.
+    /// A router's pages of a query's window: the first and the last expired one, if there is one, and the
+    /// unreadable and the used ones, both ascending.
     Pages {
         line: u64,
         router: RouterId,

@@ -150,7 +150,7 @@ fn push_totals(
     push(out, b"\n")
 }
 
-/// Appends the line of an item. After an `Err` a front of the line may stand. Takes no memory but the
+/// Appends the line of an item. After an `Err` it is open what `out` holds. Takes no memory but the
 /// growth of `out`.
 #[tactic(auto, unfolding(crate::specs::Report::item_text))]
 pub fn push_item(out: &mut Vec<u8>, topology: &Topology, item: &Item) -> Result<(), NoMemory>

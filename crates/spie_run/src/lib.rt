@@ -11,3 +11,6 @@ mod top;
 mod words;
 
 pub use top::run;
+
+#[cfg(test)]
+mod tests;

@@ -70,11 +70,12 @@ pub record Held : Type 0 where
 abbrev pub held : Rules → Account → (page : ℕ) → Held
 held rules a page = record { bits = bits rules a page; rows = rows_in a.rows page }
 
--- what a query reads of a router: the pages that it uses with what they hold, and whether a page of its window is missing
+-- a page that a query uses, with what it holds
 pub record Page : Type 0 where
   pub number : ℕ
   pub held : Held
 
+-- what a query reads of a router: the pages that it uses, and whether a page of its window is missing
 pub record Sight : Type 0 where
   pub router : ℕ
   pub used : List Page

@@ -20,16 +20,18 @@ pub data WatchAnswer : Type 0 where
   not_seen : WatchAnswer
   unsure : WatchAnswer
 
--- an expired page that could not be discarded, one that could not be read, and one that was read from the shelf
+-- an expired page that could not be discarded from the shelf
 pub record LeftPage : Type 0 where
   pub router : ℕ
   pub page : ℕ
 
+-- a page that could not be read from the shelf
 pub record UnreadPage : Type 0 where
   pub router : ℕ
   pub page : ℕ
   pub cause : CauseWord
 
+-- a page that was read from the shelf, and what was read
 pub record GotPage : Type 0 where
   pub router : ℕ
   pub page : ℕ

@@ -1,4 +1,7 @@
 -- What a replay by one worker answers.
+--
+-- Two things are not said yet, since no line that they speak of can be replayed: what a watch answers, and
+-- that a page that was read from the shelf holds what was put there.
 use Rattle.std.specs.Prelude.{◌≡◌, ℕ, List}
 use Rattle.report_text.specs.declared.Item.{Item}
 use Rattle.trace_format.specs.declared.Trace.{Trace}

@@ -27,11 +27,12 @@ page_no page = record { number = page }
 abbrev pub bad_of : UnreadPage → Bad
 bad_of x = record { page = page_no x.page; cause = x.cause }
 
--- the first and the last of some pages
+-- the last of a page and those behind it
 abbrev pub last_of : ℕ → List ℕ → ℕ
 last_of page [] = page
 last_of page (next ∷ more) = last_of next more
 
+-- the first and the last of some pages
 abbrev pub range_of : List ℕ → Option PageRange
 range_of [] = None
 range_of (first ∷ more) = Some (record { first = page_no first; last = page_no (last_of first more) })

@@ -107,6 +107,7 @@ fn query(
     ensures { OnOk result (Does trace.now line.now state.old state.new) }
 {
     let sig = sig_of(trace, packet);
+    // Its contract says that links join routers that exist, so that each pair has a name to print.
     let _routers = trace.topology.routers();
     let graph = flood(alloc, &trace.topology, &state.pages, &Node { router, sig })?;
     settle(trace, state)?;
@@ -197,9 +198,10 @@ fn started(alloc: Global, trace: &Trace) -> Result<State, NoMemory>
 /// Replays a trace with one worker, line by line. The trace keeps to the rules on names, packets and
 /// numbers, as each trace that was read does, and has no line that can't be replayed yet.
 ///
-/// Costs, for a record, 7·k multiplications and k bits that are set; for a query, the asked pairs and
-/// the lines of its answer. Takes a page for each router, 16 bytes for each record of a segment, and
-/// the report.
+/// Costs, for a record, 7·k multiplications and k bits that are set; for a query, as much for each asked
+/// pair, the flood over them, and the lines of its answer. Takes a page for each router, 16 bytes for
+/// each record of a segment, what the flood takes during a query, and the report, each in a `Vec` that
+/// grows by doubling.
 pub fn replay_alone(alloc: Global, trace: &Trace) -> Result<Replayed, NoMemory>
     requires sound { IsSound trace.now }
     requires built { first_unbuilt_of trace.now.lines ≡ None }

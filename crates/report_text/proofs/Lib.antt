@@ -1,0 +1,9 @@
+mod Decoding
+mod ItemFields
+mod Lists
+mod Numbers
+mod PageFields
+mod PairFields
+mod Pieces
+mod SameText
+mod Spaces

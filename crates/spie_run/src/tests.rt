@@ -1,0 +1,213 @@
+use crate::run;
+use spie_base::{MemSink, MemSource, Status};
+use std::alloc::Global;
+use std::sync::Wait;
+use std::test::Fail;
+use std::thread::Threads;
+
+const PRELUDE: &str =
+    "spie-trace 1\nshape 3 16 60000 1000 8 5000 100 0123456789abcdef\nrouter a east\nrouter b east\nrouter c west\nlink a b\nlink b c\nbegin\n";
+
+// Two packets that differ in fields that routers change alone, and one from another source.
+const P0: &str = "4500001c00010000401166ce0a0000010a0000020102030405060708";
+
+const P1: &str = "4508001c000100003f1167c60a0000010a0000020102030405060708";
+
+const N1: &str = "4500001c0001000040110000c00002010a0000020102030405060708";
+
+// The signature of the first two.
+const SIG: &str = "4500001c00010000001100000a0000010a0000020102030405060708";
+
+// Runs, with a source whose call of this number fails and a sink of this room.
+fn ran<R: Threads + Wait + Sync + AllocGlobal>(
+    rt: &R,
+    words: &[&str],
+    input: &str,
+    failing: u64,
+    room: usize,
+) -> Result<(Status, Vec<u8>), Fail> {
+    let alloc = rt.alloc();
+    let mut owned = Vec::new(alloc);
+    for word in words {
+        owned.push(String::from_str(alloc, word)?)?;
+    }
+    let mut source = MemSource::new(alloc, input.as_bytes(), 100, &[failing])?;
+    let mut sink = MemSink::new(alloc, 1000, room, &[])?;
+    let status = run(rt, alloc, &owned, &mut source, &mut sink);
+    Ok((status, Vec::from_slice(alloc, sink.written())?))
+}
+
+// Whether `replay 1` on the prelude and more lines ends so, and with this output.
+fn gives<R: Threads + Wait + Sync + AllocGlobal>(
+    rt: &R,
+    body: &str,
+    status: Status,
+    output: &str,
+) -> Result<bool, Fail> {
+    let alloc = rt.alloc();
+    let input = format!(in alloc; "{PRELUDE}{body}")?;
+    let (ended, text) = ran(rt, &["replay", "1"], &input, 9999, 100000)?;
+    Ok(ended == status && text.as_slice() == output.as_bytes())
+}
+
+// The lines of a query whose flood has all three routers.
+fn whole_answer(alloc: Global, line: u64) -> Result<String, Fail> {
+    let pages = format!(in alloc;
+        "{line} pages a expired - unreadable - used 0\n{line} pages b expired - unreadable - used 0\n{line} pages c expired - unreadable - used 0\n"
+    )?;
+    let nodes = format!(in alloc;
+        "{line} node a {SIG}\n{line} node b {SIG}\n{line} node c {SIG}\n"
+    )?;
+    let edges = format!(in alloc;
+        "{line} edge a {SIG} b {SIG}\n{line} edge b {SIG} a {SIG}\n{line} edge b {SIG} c {SIG}\n{line} edge c {SIG} b {SIG}\n"
+    )?;
+    Ok(format!(in alloc;
+        "{line} query\n{pages}{nodes}{edges}{line} answer nodes 3 edges 4 unknown 0 clear 0\n"
+    )?)
+}
+
+#[test]
+fn three_in_a_line(rt: HostRuntime) -> Result<(), Fail> {
+    let alloc = rt.alloc();
+    let answer = whole_answer(alloc, 13)?;
+    let report = format!(in alloc; "spie-report 1\n10 in 0\n11 in 0\n12 in 0\n{answer}14 end\n")?;
+    for packet in [
+        P0,
+        "4500001c00010000401100000a0000010a0000020102030405060708",
+    ] {
+        let body = format!(in alloc;
+            "packet {packet}\nfwd a 0\nfwd b 0\nfwd c 0\nquery c 0 0\nend\n"
+        )?;
+        assert!(rt; gives(&rt, &body, Status::Done, &report)?, "{body}");
+    }
+    Ok(())
+}
+
+#[test]
+fn masked_fields(rt: HostRuntime) -> Result<(), Fail> {
+    let alloc = rt.alloc();
+    let answer = whole_answer(alloc, 14)?;
+    let report = format!(in alloc; "spie-report 1\n11 in 0\n12 in 0\n13 in 0\n{answer}15 end\n")?;
+    let body = format!(in alloc;
+        "packet {P0}\npacket {P1}\nfwd a 0\nfwd b 1\nfwd c 0\nquery c 1 0\nend\n"
+    )?;
+    assert!(rt; gives(&rt, &body, Status::Done, &report)?);
+    Ok(())
+}
+
+#[test]
+fn empty_trace(rt: HostRuntime) -> Result<(), Fail> {
+    assert!(rt; gives(&rt, "end\n", Status::Done, "spie-report 1\n9 end\n")?);
+    Ok(())
+}
+
+#[test]
+fn clear_query(rt: HostRuntime) -> Result<(), Fail> {
+    let alloc = rt.alloc();
+    let body = format!(in alloc; "packet {P0}\nquery a 0 0\nend\n")?;
+    let report =
+        "spie-report 1\n10 query\n10 pages a expired - unreadable - used 0\n10 pages b expired - unreadable - used 0\n10 pages c expired - unreadable - used 0\n10 answer nodes 0 edges 0 unknown 0 clear 1\n11 end\n";
+    assert!(rt; gives(&rt, &body, Status::Done, report)?);
+    Ok(())
+}
+
+#[test]
+fn trace_refusals(rt: HostRuntime) -> Result<(), Fail> {
+    let alloc = rt.alloc();
+    let wrong = "4500001c00010000401166cf0a0000010a0000020102030405060708";
+    for (packet, last, more, output) in [
+        (wrong, "query c 0 0", "end\n", "refused 9 checksum\n"),
+        (P0, "query c 0 0", "", "refused 14 ending\n"),
+        (P0, "quary c 0 0", "end\n", "refused 13 word\n"),
+        (P0, "query d 0 0", "end\n", "refused 13 no-name\n"),
+        (P0, "query c 0 1", "end\n", "refused 13 clock\n"),
+        (P0, "fwd a 1", "end\n", "refused 13 no-packet\n"),
+        (P0, "xf a ipip 0 0", "end\n", "refused 13 kind\n"),
+        (P0, "query c 0 0", "end\nx\n", "refused 15 after\n"),
+        (P0, "tick 1", "end\n", "refused 13 unbuilt\n"),
+        (P0, "rotate a", "tick 1\nend\n", "refused 13 unbuilt\n"),
+    ] {
+        let body = format!(in alloc; "packet {packet}\nfwd a 0\nfwd b 0\nfwd c 0\n{last}\n{more}")?;
+        assert!(rt; gives(&rt, &body, Status::TraceRefused, output)?, "{body}");
+    }
+    Ok(())
+}
+
+#[test]
+fn faults_and_usage(rt: HostRuntime) -> Result<(), Fail> {
+    let alloc = rt.alloc();
+    let input = format!(in alloc; "{PRELUDE}end\n")?;
+    let (status, output) = ran(&rt, &["replay", "1"], &input, 0, 1000)?;
+    assert_eq!(rt; status, Status::ReadFault);
+    assert_eq!(rt; output.len(), 0);
+    let (status, output) = ran(&rt, &["replay", "1"], &input, 9999, 19)?;
+    assert_eq!(rt; status, Status::WriteFault);
+    assert_eq!(rt; *output.as_slice(), *b"spie-report 1\n9 end".as_slice());
+    for word in ["0", "17", "01", ""] {
+        let (status, output) = ran(&rt, &["replay", word], &input, 0, 0)?;
+        assert_eq!(rt; status, Status::Usage, "{word}");
+        assert_eq!(rt; output.len(), 0);
+    }
+    let (status, _) = ran(&rt, &[], &input, 0, 0)?;
+    assert_eq!(rt; status, Status::Usage);
+    Ok(())
+}
+
+// The lines of a report that sum an answer up.
+fn sums_of(alloc: Global, report: &[u8]) -> Result<Vec<u8>, Fail> {
+    let mut sums = Vec::new(alloc);
+    for line in report.split(|byte| *byte == b'\n') {
+        if line.len() > 16 && &line[3..9] == b"answer".as_slice() {
+            sums.extend_from_slice(line)?;
+            sums.push(b'\n')?;
+        }
+    }
+    Ok(sums)
+}
+
+#[test]
+fn ten_queries(rt: HostRuntime) -> Result<(), Fail> {
+    let alloc = rt.alloc();
+    let front = format!(in alloc;
+        "{PRELUDE}packet {P0}\npacket {N1}\nquery a 0 0\nfwd a 0\nquery a 0 0\nfwd b 0\nquery b 0 0\nquery c 0 0\n"
+    )?;
+    let middle = "fwd c 1\nquery c 1 0\nquery a 0 0\nfwd c 0\nquery a 0 0\nfwd a 1\nquery a 1 0\n";
+    let input = format!(in alloc; "{front}{middle}fwd b 1\nquery b 1 0\nquery c 0 0\nend\n")?;
+    let (status, report) = ran(&rt, &["replay", "1"], &input, 9999, 100000)?;
+    assert_eq!(rt; status, Status::Done);
+    let sums =
+        "11 answer nodes 0 edges 0 unknown 0 clear 1\n13 answer nodes 1 edges 0 unknown 0 clear 1\n15 answer nodes 2 edges 2 unknown 0 clear 1\n16 answer nodes 0 edges 0 unknown 0 clear 1\n18 answer nodes 1 edges 0 unknown 0 clear 1\n19 answer nodes 2 edges 2 unknown 0 clear 1\n21 answer nodes 3 edges 4 unknown 0 clear 0\n23 answer nodes 1 edges 0 unknown 0 clear 1\n25 answer nodes 3 edges 4 unknown 0 clear 0\n26 answer nodes 3 edges 4 unknown 0 clear 0\n";
+    assert_eq!(rt; sums_of(alloc, &report)?.as_slice(), sums.as_bytes());
+    Ok(())
+}
+
+// With options, without payload, and with bytes behind the total length.
+#[test]
+fn other_packets(rt: HostRuntime) -> Result<(), Fail> {
+    let alloc = rt.alloc();
+    let options = "4600002000010000401100000a0000010a00000201010101aaaaaaaabbbbbbbb";
+    let bare = "4500001400030000400100000a0000050a000006";
+    for (packet, sig) in [
+        (
+            options,
+            "4600002000010000001100000a0000010a000002aaaaaaaabbbbbbbb",
+        ),
+        (
+            bare,
+            "4500001400030000000100000a0000050a0000060000000000000000",
+        ),
+        (
+            "4500001400030000400100000a0000050a000006ffff",
+            "4500001400030000000100000a0000050a0000060000000000000000",
+        ),
+    ] {
+        let body = format!(in alloc; "packet {packet}\nfwd c 0\nquery c 0 0\nend\n")?;
+        let front =
+            "spie-report 1\n10 in 0\n11 query\n11 pages a expired - unreadable - used 0\n11 pages b expired - unreadable - used 0\n11 pages c expired - unreadable - used 0\n";
+        let report = format!(in alloc;
+            "{front}11 node c {sig}\n11 answer nodes 1 edges 0 unknown 0 clear 1\n12 end\n"
+        )?;
+        assert!(rt; gives(&rt, &body, Status::Done, &report)?, "{body}");
+    }
+    Ok(())
+}
