@@ -1,10 +1,8 @@
 -- What a run's answers tell of its input and output.
 use Rattle.std.proofs.Common.{ℕ, ◌≡◌, ◌+◌, ◌<◌, ◌≤◌, List, [], ◌∷◌, ◌++◌, ◌∙◌, ◌⊎◌, inl, inr, ⊎_elim, length, length-append, refl, sym, ap, subst, arith, lit<}
-use Rattle.std.specs.Prelude.{codes, IfSome, decimal}
+use Rattle.std.specs.Prelude.{codes}
 use Rattle.std.specs.declared.option.Option.{Option}
-use Rattle.std.specs.declared.option.Option.TheVariants.{None, Some}
 use Rattle.std.specs.Io.KnownBytes.{Consumes, Appends, IsAtEnd}
-use Rattle.std.proofs.KnownBytes.{Consumes-whole}
 use Rattle.std.proofs.lemmas.Fmt.{decimal_digit}
 use Rattle.spie_base.specs.Causes.{Rose}
 use Rattle.spie_base.specs.Transfer.{Stands, TookCount}
@@ -15,7 +13,7 @@ use Rattle.trace_format.specs.Limits.{most_bytes}
 use Rattle.trace_format.specs.Trace.{IsTrace}
 use Rattle.trace_format.specs.declared.Trace.{Trace}
 use Rattle.spie_run.specs.Refusals.{fault_text}
-use Rattle.spie_run.specs.Run.{Reports, Refuses, Answers, AnswersTrace, Delivered}
+use Rattle.spie_run.specs.Run.{Reports, Refuses, Answers, AnswersTrace, IsReadWhole, IsReadOut, Delivered}
 
 -- the answer to a trace is the answer to the text that it was read from
 pub answers_text : (s : Status) (text output : List ℕ) (trace : Trace) → IsTrace text trace → AnswersTrace s trace output → Answers s text output
@@ -30,55 +28,64 @@ answers_text status.NoMemory text output trace read h = absurd h
 no_fault_word : status.WriteFault ≡ status.TraceRefused → ⊥
 no_fault_word e = cc
 
+no_fault_done : status.WriteFault ≡ status.Done → ⊥
+no_fault_done e = cc
+
 -- a text that is written whole
-wrote_refusal : (want answer : Status) (w0 w1 : Option (List ℕ)) (text : List ℕ) (f n : ℕ) → Delivered want answer w0 w1 text f n → answer ≡ status.TraceRefused → (want ≡ status.TraceRefused) × Appends w0 w1 text
-wrote_refusal want answer w0 w1 text f n d e =
-    ⊎_elim (λ whole. (sym whole.0 ∙ e, whole.1)) (λ front. absurd (no_fault_word (sym front.0 ∙ e))) d.whole
+wrote_whole : (want answer : Status) (w0 w1 : Option (List ℕ)) (text : List ℕ) (f n : ℕ) → Delivered want answer w0 w1 text f n → (answer ≡ status.WriteFault → ⊥) → (want ≡ answer) × Appends w0 w1 text
+wrote_whole want answer w0 w1 text f n d other =
+    ⊎_elim (λ whole. (sym whole.0, whole.1)) (λ front. absurd (other front.0)) d.outcome
 
 -- a front of a text stands
 wrote_front : (want answer : Status) (w0 w1 : Option (List ℕ)) (text : List ℕ) (f n : ℕ) → Delivered want answer w0 w1 text f n → (want ≡ status.WriteFault → ⊥) → answer ≡ status.WriteFault → Stands w0 w1 text
 wrote_front want answer w0 w1 text f n d other e =
-    ⊎_elim (λ whole. absurd (other (sym whole.0 ∙ e))) (λ front. front.1) d.whole
+    ⊎_elim (λ whole. absurd (other (sym whole.0 ∙ e))) (λ front. front.1) d.outcome
+
+pub answered_done : (before after : Option (List ℕ)) (text output : List ℕ) (want answer : Status) (w0 w1 : Option (List ℕ)) (f n : ℕ)
+    → Consumes before after text → IsAtEnd after → Answers want text output → Delivered want answer w0 w1 output f n → answer ≡ status.Done
+    → (input out : List ℕ) × IsReadWhole before after input × Reports input out × Appends w0 w1 out
+answered_done before after text output want answer w0 w1 f n took end answers d e =
+    let wrote = wrote_whole want answer w0 w1 output f n d (λ same. no_fault_done (sym same ∙ e)) in
+    let A : Status → Type 0 = λ s. Answers s text output in
+    (text, output, (took, end), subst A (wrote.0 ∙ e) answers, wrote.1)
 
 pub answered_refusal : (before after : Option (List ℕ)) (text output : List ℕ) (want answer : Status) (w0 w1 : Option (List ℕ)) (f n : ℕ)
     → Consumes before after text → IsAtEnd after → Answers want text output → Delivered want answer w0 w1 output f n → answer ≡ status.TraceRefused
-    → IfSome before (λ input. (out : List ℕ) × Refuses input out × Appends w0 w1 out)
+    → (input out : List ℕ) × IsReadOut before after input × Refuses input out × Appends w0 w1 out
 answered_refusal before after text output want answer w0 w1 f n took end answers d e =
-    let wrote = wrote_refusal want answer w0 w1 output f n d e in
+    let wrote = wrote_whole want answer w0 w1 output f n d (λ same. no_fault_word (sym same ∙ e)) in
     let A : Status → Type 0 = λ s. Answers s text output in
-    Consumes-whole before after text (λ input. (out : List ℕ) × Refuses input out × Appends w0 w1 out) took end (output, subst A wrote.0 answers, wrote.1)
+    (text, output, (took, inl end), subst A (wrote.0 ∙ e) answers, wrote.1)
 
 pub answered_front : (before after : Option (List ℕ)) (text output : List ℕ) (want answer : Status) (w0 w1 : Option (List ℕ)) (f n : ℕ)
     → Consumes before after text → IsAtEnd after → Answers want text output → Delivered want answer w0 w1 output f n → answer ≡ status.WriteFault
-    → IfSome before (λ input. (s : Status) × (out : List ℕ) × Answers s input out × Stands w0 w1 out)
+    → (input : List ℕ) × (s : Status) × (out : List ℕ) × IsReadOut before after input × Answers s input out × Stands w0 w1 out
 answered_front before after text output want answer w0 w1 f n took end answers d e =
     let A : Status → Type 0 = λ s. Answers s text output in
-    let wrote = wrote_front want answer w0 w1 output f n d (λ same. subst A same answers) e in
-    Consumes-whole before after text (λ input. (s : Status) × (out : List ℕ) × Answers s input out × Stands w0 w1 out) took end (want, output, answers, wrote)
+    (text, want, output, (took, inl end), answers, wrote_front want answer w0 w1 output f n d (λ same. subst A same answers) e)
 
--- what holds of an input that is longer than this many bytes
-from_long : (before after : Option (List ℕ)) (n : ℕ) (P : List ℕ → Type 0) → TookCount before after (λ count. count ≡ n + 1) → ((input : List ℕ) → n < length input → P input) → IfSome before P
-from_long None after n P took h = tt
-from_long (Some x) None n P took h = absurd took.1
-from_long (Some x) (Some y) n P took h =
-    let bytes = took.0 in
-    let e : length x ≡ length bytes + length y = ap length took.1 ∙ length-append bytes y in
-    let k : length bytes ≡ n + 1 = took.2 in
-    h x (omega (arith, e, k))
-
+-- an input that is longer than its limit
 refused_long : (input : List ℕ) → most_bytes < length input → Refuses input (codes "refused 0 too-long\n")
 refused_long input long = inl (too_long, inl (long, refl), ap (λ digits. codes "refused " ++ digits ++ 32 ∷ codes "too-long" ++ 10 ∷ []) (sym (decimal_digit 0 (lit< tt))))
 
+past_limit : (bytes : List ℕ) → length bytes ≡ most_bytes + 1 → most_bytes < length bytes
+past_limit bytes e = omega (arith, e)
+
 pub long_refusal : (before after : Option (List ℕ)) (answer : Status) (w0 w1 : Option (List ℕ)) (f n : ℕ)
     → TookCount before after (λ count. count ≡ most_bytes + 1) → Delivered status.TraceRefused answer w0 w1 (codes "refused 0 too-long\n") f n → answer ≡ status.TraceRefused
-    → IfSome before (λ input. (out : List ℕ) × Refuses input out × Appends w0 w1 out)
+    → (input out : List ℕ) × IsReadOut before after input × Refuses input out × Appends w0 w1 out
 long_refusal before after answer w0 w1 f n took d e =
-    let wrote = wrote_refusal status.TraceRefused answer w0 w1 _ f n d e in
-    from_long before after most_bytes _ took (λ input long. (codes "refused 0 too-long\n", refused_long input long, wrote.1))
+    let wrote = wrote_whole status.TraceRefused answer w0 w1 _ f n d (λ same. no_fault_word (sym same ∙ e)) in
+    (took.0, codes "refused 0 too-long\n", (took.1, inr took.2), refused_long took.0 (past_limit took.0 took.2), wrote.1)
 
 pub long_front : (before after : Option (List ℕ)) (answer : Status) (w0 w1 : Option (List ℕ)) (f n : ℕ)
     → TookCount before after (λ count. count ≡ most_bytes + 1) → Delivered status.TraceRefused answer w0 w1 (codes "refused 0 too-long\n") f n → answer ≡ status.WriteFault
-    → IfSome before (λ input. (s : Status) × (out : List ℕ) × Answers s input out × Stands w0 w1 out)
-long_front before after answer w0 w1 f n took d e =
-    let wrote = wrote_front status.TraceRefused answer w0 w1 _ f n d (λ same. no_fault_word (sym same)) e in
-    from_long before after most_bytes _ took (λ input long. (status.TraceRefused, codes "refused 0 too-long\n", refused_long input long, wrote))
+    → (input : List ℕ) × (s : Status) × (out : List ℕ) × IsReadOut before after input × Answers s input out × Stands w0 w1 out
+long_front before after answer w0 w1 f n took d e = (
+  took.0,
+  status.TraceRefused,
+  codes "refused 0 too-long\n",
+  (took.1, inr took.2),
+  refused_long took.0 (past_limit took.0 took.2),
+  wrote_front status.TraceRefused answer w0 w1 _ f n d (λ same. no_fault_word (sym same)) e,
+)

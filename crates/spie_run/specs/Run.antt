@@ -3,7 +3,7 @@ use Rattle.std.specs.Prelude.{ℕ, ◌+◌, ◌<◌, ◌≤◌, ◌≡◌, ◌�
 use Rattle.std.specs.declared.option.Option.{Option}
 use Rattle.std.specs.Io.KnownBytes.{Consumes, Appends, IsAtEnd}
 use Rattle.spie_base.specs.Causes.{Rose}
-use Rattle.spie_base.specs.Transfer.{Stands, TookCount}
+use Rattle.spie_base.specs.Transfer.{Stands}
 use Rattle.spie_base.specs.declared.Status.{Status}
 use Rattle.spie_base.specs.declared.Status.TheVariants as status
 use Rattle.trace_format.specs.Fault.{IsFault}
@@ -47,18 +47,22 @@ AnswersTrace status.Done trace output = (first_unbuilt_of trace.lines ≡ None) 
 AnswersTrace status.TraceRefused trace output = (line : ℕ) × (first_unbuilt_of trace.lines ≡ Some line) × (output ≡ unbuilt_text line)
 AnswersTrace _ trace output = ⊥
 
--- the input was read to its end, or one byte past its limit
-abbrev pub IsReadOut : (before after : Option (List ℕ)) → Type 0
-IsReadOut before after = IsAtEnd after ⊎ TookCount before after (λ count. count ≡ most_bytes + 1)
+-- this was read, and nothing is left
+abbrev pub IsReadWhole : (before after : Option (List ℕ)) → (input : List ℕ) → Type 0
+IsReadWhole before after input = Consumes before after input × IsAtEnd after
+
+-- this was read, to the end of the input or one byte past its limit
+abbrev pub IsReadOut : (before after : Option (List ℕ)) → (input : List ℕ) → Type 0
+IsReadOut before after input = Consumes before after input × (IsAtEnd after ⊎ (length input ≡ most_bytes + 1))
 
 -- a text is written whole, or a front of it stands and the sink has failed
 pub record Delivered (want answer : Status) (before after : Option (List ℕ)) (text : List ℕ) (faults now : ℕ) : Type 0 where
   pub later : faults ≤ now
-  pub whole : (answer ≡ want) × Appends before after text × (now ≡ faults) ⊎ (answer ≡ status.WriteFault) × Stands before after text × Rose faults now
+  pub outcome : ((answer ≡ want) × Appends before after text × (now ≡ faults)) ⊎ ((answer ≡ status.WriteFault) × Stands before after text × Rose faults now)
 
--- the statuses of a run in which nothing failed
-abbrev pub IsSettled : Status → Type 0
-IsSettled status.Done = Unit {0}
-IsSettled status.TraceRefused = Unit {0}
-IsSettled status.NoMemory = Unit {0}
-IsSettled _ = ⊥
+-- the statuses of a run in which neither source nor sink failed, and whose words are right
+abbrev pub IsFaultless : Status → Type 0
+IsFaultless status.Done = Unit {0}
+IsFaultless status.TraceRefused = Unit {0}
+IsFaultless status.NoMemory = Unit {0}
+IsFaultless _ = ⊥

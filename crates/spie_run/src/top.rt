@@ -1,12 +1,12 @@
 // The run of the program.
-ghost use Rattle.std.specs.Prelude.{◌≡◌, ◌≤◌, ◌↔◌, ◌⊎◌, List, ℕ, length, map, string_bytes, IfOk, IfSome, false, true};
-ghost use Rattle.std.specs.Io.KnownBytes.{Appends, IsAtEnd};
+ghost use Rattle.std.specs.Prelude.{◌≡◌, ◌≤◌, ◌↔◌, ◌⊎◌, List, ℕ, length, map, string_bytes, IfOk, false, true};
+ghost use Rattle.std.specs.Io.KnownBytes.{Appends};
 ghost use Rattle.spie_base.specs.declared.Status.{Status};
 ghost use Rattle.spie_base.specs.Causes.{Rose};
 ghost use Rattle.spie_base.specs.Transfer.{Stands};
 ghost use Rattle.trace_format.specs.Sound.{IsSound};
 ghost use Rattle.spie_run.specs.Words.{is_replay};
-ghost use Rattle.spie_run.specs.Run.{Reports, Refuses, Answers, AnswersTrace, IsReadOut, Delivered, IsSettled};
+ghost use Rattle.spie_run.specs.Run.{Reports, Refuses, Answers, AnswersTrace, IsReadWhole, IsReadOut, Delivered, IsFaultless};
 
 use crate::refusals::{fault_text, refusal_text};
 use crate::words::is_replay;
@@ -75,8 +75,8 @@ fn deliver<K: Sink>(sink: &mut K, status: Status, text: &[u8]) -> Status
 /// Reads a whole input, replays it and writes the whole report; `rt` and `alloc` are those of the
 /// program. The words `replay 1` are the only form that is known, and all others are `Usage`.
 ///
-/// Nothing is written before the input was read whole and the output made whole. Takes the input, what
-/// the trace keeps of it, and the report.
+/// Nothing is written before the input was read, to its end or one byte past its limit of 64 MiB, and the
+/// output made whole. Takes the input, what the trace keeps of it, and the report.
 pub fn run<R: Threads + Wait + Sync, S: Source, K: Sink>(
     rt: &R,
     alloc: Global,
@@ -84,25 +84,23 @@ pub fn run<R: Threads + Wait + Sync, S: Source, K: Sink>(
     source: &mut S,
     sink: &mut K,
 ) -> Status
-    // What each status tells of the input and the output.
-    ensures done { result ≡ Status.Done → IfSome (S.left source.old) (λ input.
-        (output : List ℕ) × Reports input output × Appends (K.written sink.old) (K.written sink.new) output) }
-    ensures refused { result ≡ Status.TraceRefused → IfSome (S.left source.old) (λ input.
-        (output : List ℕ) × Refuses input output × Appends (K.written sink.old) (K.written sink.new) output) }
-    ensures front { result ≡ Status.WriteFault → IfSome (S.left source.old) (λ input.
-        (status : Status) × (output : List ℕ) × Answers status input output × Stands (K.written sink.old) (K.written sink.new) output) }
+    // What each status tells of the bytes that were read and written.
+    ensures done { result ≡ Status.Done → (input : List ℕ) × (output : List ℕ)
+        × IsReadWhole (S.left source.old) (S.left source.new) input × Reports input output × Appends (K.written sink.old) (K.written sink.new) output }
+    ensures refused { result ≡ Status.TraceRefused → (input : List ℕ) × (output : List ℕ)
+        × IsReadOut (S.left source.old) (S.left source.new) input × Refuses input output × Appends (K.written sink.old) (K.written sink.new) output }
+    ensures front { result ≡ Status.WriteFault → (input : List ℕ) × (status : Status) × (output : List ℕ)
+        × IsReadOut (S.left source.old) (S.left source.new) input × Answers status input output × Stands (K.written sink.old) (K.written sink.new) output }
     ensures unwritten { (result ≡ Status.ReadFault ⊎ result ≡ Status.NoMemory) → sink.new ≡ sink.old }
-
-    // How far the input was read.
-    ensures ended { result ≡ Status.Done → IsAtEnd (S.left source.new) }
-    ensures read_out { result ≡ Status.TraceRefused → IsReadOut (S.left source.old) (S.left source.new) }
 
     // When each status comes.
     ensures usage { (result ≡ Status.Usage) ↔ (is_replay (map string_bytes words.now) ≡ false) }
     ensures untouched { result ≡ Status.Usage → (source.new ≡ source.old) × (sink.new ≡ sink.old) }
     ensures read_fault { result ≡ Status.ReadFault → Rose (S.faults source.old) (S.faults source.new) }
     ensures write_fault { result ≡ Status.WriteFault → Rose (K.faults sink.old) (K.faults sink.new) }
-    ensures complete { is_replay (map string_bytes words.now) ≡ true → (Rose (S.faults source.old) (S.faults source.new) → ⊥) → (Rose (K.faults sink.old) (K.faults sink.new) → ⊥) → IsSettled result }
+    ensures faultless { IsFaultless result → (S.faults source.new ≡ S.faults source.old) × (K.faults sink.new ≡ K.faults sink.old) }
+    ensures read_first { result ≡ Status.WriteFault → S.faults source.new ≡ S.faults source.old }
+    ensures complete { is_replay (map string_bytes words.now) ≡ true → (Rose (S.faults source.old) (S.faults source.new) → ⊥) → (Rose (K.faults sink.old) (K.faults sink.new) → ⊥) → IsFaultless result }
 {
     if !is_replay(words) {
         return Status::Usage;

@@ -6,8 +6,16 @@ use Rattle.spie_base.specs.declared.Status.TheVariants.{TraceRefused}
 use Rattle.std.specs.Prelude.{Err}
 use Rattle.trace_format.specs.Limits.{most_bytes}
 use Rattle.spie_run.specs.Run.{Answers, Delivered}
-use Rattle.spie_run.proofs.Delivery.{answered_refusal, answered_front, long_refusal, long_front}
+use Rattle.spie_run.proofs.Delivery.{answered_done, answered_refusal, answered_front, long_refusal, long_front}
 use Rattle.spie_run.proofs.top.run.Goals as goal
+
+pub returns-in-Ok-answer-clause-done : goal.returns-in-Ok-answer-clause-done
+returns-in-Ok-answer-clause-done g c =
+    let took = c.in-Ok.ensures.took in
+    let status = c.in-Ok-answer.reply.status in
+    let A : List ℕ → Type 0 = λ text. Answers status text c.in-Ok-answer.reply.text.items in
+    let D : List ℕ → Type 0 = λ out. Delivered status c.deliver.result (g.K.Sink.written c.args.sink.now) (g.K.Sink.written c.deliver.new.sink) out (g.K.Sink.faults c.args.sink.now) (g.K.Sink.faults c.deliver.new.sink) in
+    answered_done _ _ c.in-Ok.text.items c.in-Ok-answer.reply.text.items status c.deliver.result _ _ _ _ took.0 took.2 (subst A c.deref.ensures.value c.in-Ok-answer.ensures) (subst D c.deref-in-Ok-answer.ensures.value c.deliver.ensures)
 
 pub returns-in-Ok-answer-clause-refused : goal.returns-in-Ok-answer-clause-refused
 returns-in-Ok-answer-clause-refused g c =
