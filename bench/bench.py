@@ -1,0 +1,99 @@
+#!/usr/bin/env python3
+"""Times the built program on made traces, beside sha256sum over the same file.
+
+    bench/bench.py [PROGRAM]      PROGRAM is crates/spie/out/spie by default
+
+For each input: its lines and bytes, the best of five runs of each program in seconds, their ratio, the
+program's peak memory, and that peak less the input and the report, per line. Inputs are made in a
+temporary folder and removed.
+"""
+import os
+import subprocess
+import sys
+import tempfile
+import time
+
+ROUTERS = 64
+RUNS = 5
+HERE = os.path.dirname(os.path.abspath(__file__))
+
+
+def packet(number):
+    """A packet with its checksum left unset, in hex digits."""
+    return "4500001c%04x0000401100000a%06x0a000002%016x" % (number % 65536, number, number)
+
+
+def front(out):
+    out.write("spie-trace 1\nshape 3 16 60000 1000 8 5000 100 0123456789abcdef\n")
+    for router in range(ROUTERS):
+        out.write("router r%d east\n" % router)
+    for router in range(ROUTERS - 1):
+        out.write("link r%d r%d\n" % (router, router + 1))
+    out.write("begin\n")
+
+
+def forwards(out, records):
+    """Records of 1,000 packets, spread over the routers, and one query."""
+    front(out)
+    for number in range(1000):
+        out.write("packet %s\n" % packet(number))
+    for number in range(records):
+        out.write("fwd r%d %d\n" % (number * 7 % ROUTERS, number % 1000))
+    out.write("query r0 0 0\nend\n")
+
+
+def chains(out, queries):
+    """Packets that every router of the line forwarded, and a query for each at the last."""
+    front(out)
+    for number in range(queries):
+        out.write("packet %s\n" % packet(number))
+    for number in range(queries):
+        for router in range(ROUTERS):
+            out.write("fwd r%d %d\n" % (router, number))
+    for number in range(queries):
+        out.write("query r%d %d 0\n" % (ROUTERS - 1, number))
+    out.write("end\n")
+
+
+def timed(command, source):
+    """Seconds and peak memory in bytes of one run."""
+    with open(source, "rb") as stdin, open(os.devnull, "wb") as stdout:
+        begin = time.perf_counter()
+        child = subprocess.Popen(command, stdin=stdin, stdout=stdout)
+        _, status, usage = os.wait4(child.pid, 0)
+        seconds = time.perf_counter() - begin
+    child.returncode = os.waitstatus_to_exitcode(status)
+    if child.returncode != 0:
+        sys.exit("%s ended with %d" % (command[0], child.returncode))
+    return seconds, usage.ru_maxrss * 1024
+
+
+def measure(name, program, source):
+    size = os.path.getsize(source)
+    with open(source, "rb") as text:
+        lines = sum(1 for _ in text)
+    with open(source, "rb") as stdin:
+        report = len(subprocess.run([program, "replay", "1"], stdin=stdin, capture_output=True).stdout)
+    runs = [timed([program, "replay", "1"], source) for _ in range(RUNS)]
+    hashes = [timed(["sha256sum"], source) for _ in range(RUNS)]
+    own, other = min(run[0] for run in runs), min(run[0] for run in hashes)
+    peak = max(run[1] for run in runs)
+    print("%-16s %9d %10d %8.3f %8.3f %6.1f %7.1f MB %6.1f" % (
+        name, lines, size, own, other, own / other, peak / 1e6, (peak - size - report) / lines))
+
+
+def main():
+    program = sys.argv[1] if len(sys.argv) > 1 else os.path.join(HERE, "..", "crates", "spie", "out", "spie")
+    print("%-16s %9s %10s %8s %8s %6s %10s %6s" % ("input", "lines", "bytes", "spie", "sha256", "ratio", "peak", "B/line"))
+    cases = [("fwd 10^%d" % power, forwards, 10 ** power) for power in (4, 5, 6)]
+    cases += [("queries %d" % count, chains, count) for count in (16, 64, 256)]
+    with tempfile.TemporaryDirectory() as folder:
+        for name, make, count in cases:
+            source = os.path.join(folder, "trace")
+            with open(source, "w") as out:
+                make(out, count)
+            measure(name, program, source)
+
+
+if __name__ == "__main__":
+    main()
