@@ -8,6 +8,9 @@ use itoa::Buffer;
 use spie_base::{NoMemory, PageNo, PageRange, RouterId, Sig};
 use topology::Topology;
 
+// Stands where a list or a range is empty.
+const NONE: &[u8] = b"-";
+
 /// Appends some bytes.
 pub fn push(out: &mut Vec<u8>, bytes: &[u8]) -> Result<(), NoMemory>
     ensures { OnOk result (out.new.items ≡ out.old.items ++ bytes.now) }
@@ -80,7 +83,7 @@ pub fn push_pages(out: &mut Vec<u8>, pages: &[PageNo]) -> Result<(), NoMemory>
     ensures { OnOk result (out.new.items ≡ out.old.items ++ spaced (pages_text pages.now)) }
 {
     match pages {
-        [] => push_field(out, b"-"),
+        [] => push_field(out, NONE),
         [first, more @ ..] => {
             push_page(out, *first)?;
             push_more_pages(out, more)
@@ -93,7 +96,7 @@ pub fn push_range(out: &mut Vec<u8>, range: Option<PageRange>) -> Result<(), NoM
     ensures { OnOk result (out.new.items ≡ out.old.items ++ spaced (range_text range)) }
 {
     match range {
-        None => push_field(out, b"-"),
+        None => push_field(out, NONE),
         Some(range) => {
             push_page(out, range.first)?;
             push(out, b"-")?;
@@ -137,7 +140,7 @@ pub fn push_bads(out: &mut Vec<u8>, bads: &[Bad]) -> Result<(), NoMemory>
     ensures { OnOk result (out.new.items ≡ out.old.items ++ spaced (bad_text bads.now)) }
 {
     match bads {
-        [] => push_field(out, b"-"),
+        [] => push_field(out, NONE),
         [first, more @ ..] => {
             push(out, b" ")?;
             push_bad(out, first)?;
