@@ -76,15 +76,14 @@ pub record IsRead (rules : Rules) (history : History) (asked : Asked) : Type 0 w
   pub got_rises : IsRising got_cmp asked.got
   pub got : (router page : ℕ) → ((x : GotPage) × Contains asked.got x × (x.router ≡ router) × (x.page ≡ page)) ↔ (IsShelved rules history asked.time router page × (is_unread asked router page ≡ false))
 
-abbrev pub IsAllowedEvent : Rules → History → Step → Type 0
-IsAllowedEvent rules history step = elim step.event [
-  | archived router put kept ↦ IsArchived rules history router put kept
-  | ticked time left ↦ AreLeft rules history (step ∷ history) left
-  | queried asked left ↦ IsRead rules history asked × AreLeft rules history (step ∷ history) left
-  | ended left ↦ AreLeft rules history (step ∷ history) left
-  | _ ↦ Unit {0}
-]
+-- what an event may be answered, by the histories before it and after it
+abbrev pub IsAllowedEvent : Rules → (before after : History) → Event → Type 0
+IsAllowedEvent rules before after (archived router put kept) = IsArchived rules before router put kept
+IsAllowedEvent rules before after (ticked time left) = AreLeft rules before after left
+IsAllowedEvent rules before after (queried asked left) = IsRead rules before asked × AreLeft rules before after left
+IsAllowedEvent rules before after (ended left) = AreLeft rules before after left
+IsAllowedEvent rules before after _ = Unit {0}
 
 abbrev pub IsAllowed : Rules → History → Type 0
 IsAllowed rules [] = Unit {0}
-IsAllowed rules (step ∷ history) = IsAllowed rules history × IsAllowedEvent rules history step
+IsAllowed rules (step ∷ history) = IsAllowed rules history × IsAllowedEvent rules history (step ∷ history) step.event

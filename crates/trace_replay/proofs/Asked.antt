@@ -33,7 +33,7 @@ use Rattle.trace_replay.specs.declared.state.Receipt.{Receipt}
 use Rattle.trace_replay.specs.declared.state.State.{State}
 use Rattle.trace_replay.specs.Pages.{shows}
 use Rattle.trace_replay.specs.Printing.{entered_items, answer_items, first_page_item}
-use Rattle.trace_replay.specs.Standing.{IsOpenPage, Stands, AreFew, AreMore, Does, Settles, Asks, Ends}
+use Rattle.trace_replay.specs.Standing.{IsOpenPage, Stands, AreFew, AreMore, Does, PrintsReceipts, Asks, Ends}
 use Rattle.trace_replay.proofs.Nets.{AgreeBelow, flood_same}
 use Rattle.trace_replay.proofs.Sights.{plain_query, item_is, hit_is, origins_is, missing_false}
 use Rattle.trace_replay.proofs.Steps.{none_left}
@@ -146,25 +146,25 @@ few_more before after n m l few more =
     record { nodes = omega arith; edges = omega arith; unknown = omega arith; clear = omega arith }
 
 -- the receipts are printed
-pub stands_settled : (t : Trace) (history : History) (before after : State) → Settles t before after → Stands t history before → Stands t history after
-stands_settled t history before after settles s =
+pub stands_printed : (t : Trace) (history : History) (before after : State) → PrintsReceipts t before after → Stands t history before → Stands t history after
+stands_printed t history before after prints s =
     let entered = entered_items before.receipts.items in
     let P : List OpenPage → Type 0 = λ xs. (r : ℕ) (d : OpenPage) → r < length xs → IsOpenPage t.rules r (account t.rules r history) (get_or xs r d) in
     let A : List Item → Type 0 = λ items. AreItemsOf t history items in
     let F : Totals → Type 0 = λ totals. AreFew totals (length after.report.items) in
-    let n : length after.report.items ≡ length before.report.items + length (text_of t entered) = ap length settles.report ∙ length-append before.report.items (text_of t entered) in
+    let n : length after.report.items ≡ length before.report.items + length (text_of t entered) = ap length prints.report ∙ length-append before.report.items (text_of t entered) in
     record {
-      count = ap length settles.pages ∙ s.count;
-      pages = subst P (sym settles.pages) s.pages;
+      count = ap length prints.pages ∙ s.count;
+      pages = subst P (sym prints.pages) s.pages;
       plain = s.plain;
       sequential = s.sequential;
       allowed = s.allowed;
       unput = s.unput;
       items = s.items ++ entered;
-      answered = subst A (sym (ap (λ (l : List Receipt). (s.items ++ entered) ++ entered_items l) settles.receipts ∙ append-nil (s.items ++ entered))) s.answered;
-      report = settles.report ∙ ap (λ l. l ++ text_of t entered) s.report ∙ sym (flat_map-append _ s.items entered);
-      totals = settles.totals ∙ s.totals ∙ sym (totals_entered s.items before.receipts.items);
-      few = subst F (sym settles.totals) (few_longer before.totals (length before.report.items) (length after.report.items) (omega (arith, n)) s.few);
+      answered = subst A (sym (ap (λ (l : List Receipt). (s.items ++ entered) ++ entered_items l) prints.receipts ∙ append-nil (s.items ++ entered))) s.answered;
+      report = prints.report ∙ ap (λ l. l ++ text_of t entered) s.report ∙ sym (flat_map-append _ s.items entered);
+      totals = prints.totals ∙ s.totals ∙ sym (totals_entered s.items before.receipts.items);
+      few = subst F (sym prints.totals) (few_longer before.totals (length before.report.items) (length after.report.items) (omega (arith, n)) s.few);
     }
 
 none_read : (t : Trace) (history : History) (r0 : ℕ) (sig0 : Sig) (time : ℕ) → ((router : ℕ) → puts router history ≡ []) → IsRead t.rules history (plain_query r0 sig0 time)
@@ -186,15 +186,15 @@ pub does_query : (t : Trace) (line : Line) (router : RouterId) (packet : ℕ) (s
     → line.what ≡ Query router packet time → slice_get t.sigs packet ≡ Some sig → router.number < length t.topology.names
     → ((a b : ℕ) → IsTrue (is_linked t.topology.links a b) → b < length t.topology.names)
     → IsFlood (net_of shows itself never old.pages.items t.topology) (record { router = router; sig = sig }) graph
-    → Settles t old mid → Asks t line.number graph mid new → Does t line old new
-does_query t line router packet sig time graph old mid new is known exists ends flood settles asks history stands =
+    → PrintsReceipts t old mid → Asks t line.number graph mid new → Does t line old new
+does_query t line router packet sig time graph old mid new is known exists ends flood prints asks history stands =
     let asked = plain_query router.number sig time in
     let W : What → Type 0 = λ w. Answers t.sigs w (queried asked []) in
-    let s = stands_settled t history old mid settles stands in
+    let s = stands_printed t history old mid prints stands in
     let answer = answer_items line.number (length t.topology.names) graph in
     let P : List OpenPage → Type 0 = λ xs. (r : ℕ) (d : OpenPage) → r < length xs → IsOpenPage t.rules r (account t.rules r history) (get_or xs r d) in
     let A : List Item → Type 0 = λ items. AreItemsOf t history items in
-    let none : new.receipts.items ≡ [] = asks.receipts ∙ settles.receipts in
+    let none : new.receipts.items ≡ [] = asks.receipts ∙ prints.receipts in
     let real = flood_same (length t.topology.names) _ _ (record { router = router; sig = sig }) graph exists (agree t history old stands router.number sig time ends) flood in
     let printed = map_same (pages_item t history line.number asked) (first_page_item line.number) (λ r. item_is t history router.number sig time r (stands.plain r) line.number) (below (length t.topology.names)) in (
       queried asked [],
@@ -210,7 +210,7 @@ does_query t line router packet sig time graph old mid new is known exists ends 
         answered = (
           s.items,
           answer,
-          subst A (ap (λ (l : List Receipt). s.items ++ entered_items l) settles.receipts ∙ append-nil s.items) s.answered,
+          subst A (ap (λ (l : List Receipt). s.items ++ entered_items l) prints.receipts ∙ append-nil s.items) s.answered,
           (graph, real, ap (λ (l : List Item). item.Query line.number ∷ l ++ graph_items line.number graph) (sym printed)),
           ap (λ (l : List Receipt). (s.items ++ answer) ++ entered_items l) none ∙ append-nil (s.items ++ answer),
         );
@@ -220,10 +220,10 @@ does_query t line router packet sig time graph old mid new is known exists ends 
       },
     )
 
-pub does_end : (t : Trace) (line : Line) (old mid new : State) → line.what ≡ End → Settles t old mid → Ends t line.number mid new → Does t line old new
-does_end t line old mid new is settles ends history stands =
+pub does_end : (t : Trace) (line : Line) (old mid new : State) → line.what ≡ End → PrintsReceipts t old mid → Ends t line.number mid new → Does t line old new
+does_end t line old mid new is prints ends history stands =
     let W : What → Type 0 = λ w. Answers t.sigs w (ended []) in
-    let s = stands_settled t history old mid settles stands in
+    let s = stands_printed t history old mid prints stands in
     let last = item.End line.number ∷ [] in
     let P : List OpenPage → Type 0 = λ xs. (r : ℕ) (d : OpenPage) → r < length xs → IsOpenPage t.rules r (account t.rules r history) (get_or xs r d) in
     let A : List Item → Type 0 = λ items. AreItemsOf t history items in
@@ -242,9 +242,9 @@ does_end t line old mid new is settles ends history stands =
         answered = (
           s.items,
           last,
-          subst A (ap (λ (l : List Receipt). s.items ++ entered_items l) settles.receipts ∙ append-nil s.items) s.answered,
+          subst A (ap (λ (l : List Receipt). s.items ++ entered_items l) prints.receipts ∙ append-nil s.items) s.answered,
           refl,
-          ap (λ (l : List Receipt). (s.items ++ last) ++ entered_items l) (ends.receipts ∙ settles.receipts) ∙ append-nil (s.items ++ last),
+          ap (λ (l : List Receipt). (s.items ++ last) ++ entered_items l) (ends.receipts ∙ prints.receipts) ∙ append-nil (s.items ++ last),
         );
         report = ends.report ∙ ap (λ l. l ++ text_of t last) s.report ∙ sym (flat_map-append _ s.items last);
         totals = ends.totals ∙ s.totals ∙ sym (fold_append s.items last no_totals);

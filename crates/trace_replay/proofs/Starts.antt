@@ -18,11 +18,11 @@ use Rattle.trace_history.specs.Replay.{IsReplayed}
 use Rattle.trace_history.specs.Report.{AreItemsOf, no_totals}
 use Rattle.trace_history.proofs.Lists.{has_none, has_cases}
 use Rattle.trace_replay.specs.Built.{is_built, first_unbuilt_of}
-use Rattle.trace_replay.proofs.Asked.{stands_settled}
+use Rattle.trace_replay.proofs.Asked.{stands_printed}
 use Rattle.trace_replay.proofs.Named.{all_of}
 use Rattle.trace_replay.specs.declared.pages.OpenPage.{OpenPage}
 use Rattle.trace_replay.specs.declared.state.State.{State}
-use Rattle.trace_replay.specs.Standing.{IsOpenPage, IsEmptyPage, AreFew, Stands, Does, HasDone, Settles}
+use Rattle.trace_replay.specs.Standing.{IsOpenPage, IsEmptyPage, AreFew, Stands, Does, HasDone, PrintsReceipts}
 use Rattle.trace_replay.specs.Printing.{entered_items}
 
 -- one line more
@@ -84,9 +84,9 @@ pub all_built : (lines : List Line) → first_unbuilt_of lines ≡ None → All 
 all_built lines e = all_of (λ (line : Line). is_built line.what ≡ true) lines (built_each lines e)
 
 -- a replay of all lines, whose receipts are printed
-pub replayed : (t : Trace) (done after : State) (text : List ℕ) → HasDone t t.lines done → Settles t done after → text ≡ after.report.items → IsReplayed t text after.totals
-replayed t done after text h settles e =
-    let s = stands_settled t h.history done after settles h.stands in
+pub replayed : (t : Trace) (done after : State) (text : List ℕ) → HasDone t t.lines done → PrintsReceipts t done after → text ≡ after.report.items → IsReplayed t text after.totals
+replayed t done after text h prints e =
+    let s = stands_printed t h.history done after prints h.stands in
     let A : List Item → Type 0 = λ items. AreItemsOf t h.history items in
     record {
       history = h.history;
@@ -94,7 +94,7 @@ replayed t done after text h settles e =
       lines = h.lines_are;
       sequential = s.sequential;
       allowed = s.allowed;
-      answered = subst A (ap (λ receipts. s.items ++ entered_items receipts) settles.receipts ∙ append-nil s.items) s.answered;
+      answered = subst A (ap (λ receipts. s.items ++ entered_items receipts) prints.receipts ∙ append-nil s.items) s.answered;
       text_is = e ∙ s.report;
       totals_are = s.totals;
     }

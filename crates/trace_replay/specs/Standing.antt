@@ -71,7 +71,7 @@ pub record HasDone (t : Trace) (lines : List Line) (s : State) : Type 0 where
   pub stands : Stands t history s
 
 -- the receipts are printed, and nothing else changes
-pub record Settles (t : Trace) (before after : State) : Type 0 where
+pub record PrintsReceipts (t : Trace) (before after : State) : Type 0 where
   pub pages : after.pages.items ≡ before.pages.items
   pub receipts : after.receipts.items ≡ []
   pub report : after.report.items ≡ before.report.items ++ text_of t (entered_items before.receipts.items)

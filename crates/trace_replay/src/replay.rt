@@ -7,7 +7,7 @@ ghost use Rattle.trace_replay.specs.Built.{is_built, first_unbuilt_of};
 ghost use Rattle.trace_replay.specs.Printing.{IsGraphNamed};
 ghost use Rattle.trace_format.specs.Sound.{IsSound, IsWithin};
 ghost use Rattle.trace_format.specs.Spelling.{IsFront};
-ghost use Rattle.trace_replay.specs.Standing.{IsStanding, Does, HasDone, Stands, IsOpenPage, Settles, Asks, Ends, IsRoomy, IsEmptyPage};
+ghost use Rattle.trace_replay.specs.Standing.{IsStanding, Does, HasDone, Stands, IsOpenPage, PrintsReceipts, Asks, Ends, IsRoomy, IsEmptyPage};
 ghost use Rattle.trace_replay.specs.declared.pages.OpenPage.{OpenPage};
 
 use crate::pages::OpenPage;
@@ -66,8 +66,8 @@ fn forward(
 }
 
 // A barrier: the receipts since the last one are printed.
-fn settle(trace: &Trace, state: &mut State) -> Result<(), NoMemory>
-    ensures { OnOk result (Settles trace.now state.old state.new) }
+fn print_receipts(trace: &Trace, state: &mut State) -> Result<(), NoMemory>
+    ensures { OnOk result (PrintsReceipts trace.now state.old state.new) }
 {
     push_receipts(&mut state.report, &trace.topology, &state.receipts)?;
     state.receipts.clear();
@@ -110,7 +110,7 @@ fn query(
     // Its contract says that links join routers that exist, so that each pair has a name to print.
     let _routers = trace.topology.routers();
     let graph = flood(alloc, &trace.topology, &state.pages, &Node { router, sig })?;
-    settle(trace, state)?;
+    print_receipts(trace, state)?;
     answer(alloc, trace, line.number, &graph, state)?;
     Ok(())
 }
@@ -128,7 +128,7 @@ fn end(trace: &Trace, line: &Line, state: &mut State) -> Result<(), NoMemory>
     requires stands { IsStanding trace.now state.old }
     ensures { OnOk result (Does trace.now line.now state.old state.new) }
 {
-    settle(trace, state)?;
+    print_receipts(trace, state)?;
     close(trace, line.number, state)?;
     Ok(())
 }
@@ -209,7 +209,7 @@ pub fn replay_alone(alloc: Global, trace: &Trace) -> Result<Replayed, NoMemory>
 {
     let mut state = started(alloc, trace)?;
     all_lines(alloc, trace, trace.lines.items(), &mut state)?;
-    settle(trace, &mut state)?;
+    print_receipts(trace, &mut state)?;
     Ok(Replayed {
         report: List::of(state.report),
         totals: state.totals,

@@ -17,6 +17,6 @@ pub returns : goal.returns
 returns c =
     let t = c.args.trace.now in
     let F : List OpenPage → Type 0 = λ xs. IsFlood (net_of shows itself never xs t.topology) (record { router = c.args.router; sig = c.sig_of-sig.result }) c.in_ok-graph.graph in
-    does_query t c.args.line.now c.args.router c.args.packet c.sig_of-sig.result c.args.time c.in_ok-graph.graph c.args.state.now c.settle.new.state c.answer.new.state
+    does_query t c.args.line.now c.args.router c.args.packet c.sig_of-sig.result c.args.time c.in_ok-graph.graph c.args.state.now c.print_receipts.new.state c.answer.new.state
     c.requires.is c.sig_of-sig.ensures c.requires.exists (λ a b h. (c.routers-routers.ensures.sound.ends a b h).1)
-    (subst F c.deref.ensures.value c.in_ok-graph.ensures.graph) c.in_ok-settle.ensures c.in_ok-answer.ensures
+    (subst F c.deref.ensures.value c.in_ok-graph.ensures.graph) c.in_ok-print_receipts.ensures c.in_ok-answer.ensures

@@ -15,4 +15,4 @@ pub returns : goal.returns
 returns c =
     let t = c.args.trace.now in
     let D : List Line → Type 0 = λ lines. HasDone t lines c.all_lines.new.state in
-    replayed t c.all_lines.new.state c.settle.new.state c.of.result (subst D c.items.ensures c.in_ok-all_lines.ensures) c.in_ok-settle.ensures c.of.ensures
+    replayed t c.all_lines.new.state c.print_receipts.new.state c.of.result (subst D c.items.ensures c.in_ok-all_lines.ensures) c.in_ok-print_receipts.ensures c.of.ensures
