@@ -14,3 +14,4 @@ mod tests;
 mod words;
 
 pub use page::Page;
+pub use words::ones_in;

@@ -63,10 +63,11 @@ pub fn are_set(words: &[u64], positions: &[u32]) -> bool
     true
 }
 
-/// How many bits are set.
+/// How many bits of these words are set. Costs one count of bits a word.
 pub fn ones_in(words: &[u64]) -> u32
     requires { 64 * length words.now < 2 ^ 32 }
-    ensures { result ≡ length (members_of words.now) }
+    ensures count { result ≡ length (members_of words.now) }
+    ensures most { result ≤ 64 * length words.now }
 {
     let mut ones = 0;
     for word in words {

@@ -3,8 +3,9 @@
 //!
 //! Its central contracts are those of the traits: a source, a sink and a sighting are seen by ghost
 //! members alone (bytes, a count of faults, a test of signatures), so that everything above is proved
-//! once for files, memory and failing stand-ins alike. Read `types`, `errors`, `source` and `sighting`
-//! first, then `transfer`, which moves whole inputs and outputs.
+//! once for all of them. Memory tells its bytes, failing calls included; a file, a pipe or a terminal
+//! tells its count of faults alone. Read `types`, `errors`, `source` and `sighting` first, then
+//! `transfer`, which moves whole inputs and outputs.
 #![tactic(auto)]
 
 mod decimals;

@@ -2,7 +2,7 @@
 ghost use Rattle.std.specs.Prelude.{◌≤◌, OnOk, OnErr};
 ghost use Rattle.std.specs.Io.KnownBytes.{Appends};
 ghost use Rattle.spie_base.specs.Causes.{HasCause, HasReadCause};
-ghost use Rattle.spie_base.specs.Transfer.{Took, Stands};
+ghost use Rattle.spie_base.specs.Transfer.{Took, AppendsFront};
 
 use crate::{ReadRefused, Sink, Source, WriteFailed};
 use std::alloc::Global;
@@ -40,7 +40,7 @@ pub fn read_all<S: Source>(
 /// Appends all the bytes, and takes no memory. After an `Err` a front of them stands.
 pub fn write_all<K: Sink>(sink: &mut K, bytes: &[u8]) -> Result<(), WriteFailed>
     ensures whole { OnOk result (Appends (K.written sink.old) (K.written sink.new) bytes.now) }
-    ensures front { OnErr result (Stands (K.written sink.old) (K.written sink.new) bytes.now) }
+    ensures front { OnErr result (AppendsFront (K.written sink.old) (K.written sink.new) bytes.now) }
     ensures cause { HasCause (K.faults sink.old) (K.faults sink.new) result }
 {
     let mut at = 0;

@@ -5,7 +5,7 @@ use Rattle.std.specs.declared.option.Option.{Option}
 use Rattle.std.specs.Io.KnownBytes.{Consumes, Appends, IsAtEnd}
 use Rattle.std.proofs.lemmas.Fmt.{decimal_digit}
 use Rattle.spie_base.specs.Causes.{Rose}
-use Rattle.spie_base.specs.Transfer.{Stands, TookCount}
+use Rattle.spie_base.specs.Transfer.{AppendsFront, TookCount}
 use Rattle.spie_base.specs.declared.Status.{Status}
 use Rattle.spie_base.specs.declared.Status.TheVariants as status
 use Rattle.trace_format.specs.Fault.{IsFault, too_long}
@@ -37,7 +37,7 @@ wrote_whole want answer w0 w1 text f n d other =
     ⊎_elim (λ whole. (sym whole.0, whole.1)) (λ front. absurd (other front.0)) d.outcome
 
 -- a front of a text stands
-wrote_front : (want answer : Status) (w0 w1 : Option (List ℕ)) (text : List ℕ) (f n : ℕ) → Delivered want answer w0 w1 text f n → (want ≡ status.WriteFault → ⊥) → answer ≡ status.WriteFault → Stands w0 w1 text
+wrote_front : (want answer : Status) (w0 w1 : Option (List ℕ)) (text : List ℕ) (f n : ℕ) → Delivered want answer w0 w1 text f n → (want ≡ status.WriteFault → ⊥) → answer ≡ status.WriteFault → AppendsFront w0 w1 text
 wrote_front want answer w0 w1 text f n d other e =
     ⊎_elim (λ whole. absurd (other (sym whole.0 ∙ e))) (λ front. front.1) d.outcome
 
@@ -59,7 +59,7 @@ answered_refusal before after text output want answer w0 w1 f n took end answers
 
 pub answered_front : (before after : Option (List ℕ)) (text output : List ℕ) (want answer : Status) (w0 w1 : Option (List ℕ)) (f n : ℕ)
     → Consumes before after text → IsAtEnd after → Answers want text output → Delivered want answer w0 w1 output f n → answer ≡ status.WriteFault
-    → (input : List ℕ) × (s : Status) × (out : List ℕ) × IsReadOut before after input × Answers s input out × Stands w0 w1 out
+    → (input : List ℕ) × (s : Status) × (out : List ℕ) × IsReadOut before after input × Answers s input out × AppendsFront w0 w1 out
 answered_front before after text output want answer w0 w1 f n took end answers d e =
     let A : Status → Type 0 = λ s. Answers s text output in
     (text, want, output, (took, inl end), answers, wrote_front want answer w0 w1 output f n d (λ same. subst A same answers) e)
@@ -80,7 +80,7 @@ long_refusal before after answer w0 w1 f n took d e =
 
 pub long_front : (before after : Option (List ℕ)) (answer : Status) (w0 w1 : Option (List ℕ)) (f n : ℕ)
     → TookCount before after (λ count. count ≡ most_bytes + 1) → Delivered status.TraceRefused answer w0 w1 (codes "refused 0 too-long\n") f n → answer ≡ status.WriteFault
-    → (input : List ℕ) × (s : Status) × (out : List ℕ) × IsReadOut before after input × Answers s input out × Stands w0 w1 out
+    → (input : List ℕ) × (s : Status) × (out : List ℕ) × IsReadOut before after input × Answers s input out × AppendsFront w0 w1 out
 long_front before after answer w0 w1 f n took d e = (
   took.0,
   status.TraceRefused,

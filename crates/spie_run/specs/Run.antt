@@ -3,7 +3,7 @@ use Rattle.std.specs.Prelude.{ℕ, ◌+◌, ◌<◌, ◌≤◌, ◌≡◌, ◌�
 use Rattle.std.specs.declared.option.Option.{Option}
 use Rattle.std.specs.Io.KnownBytes.{Consumes, Appends, IsAtEnd}
 use Rattle.spie_base.specs.Causes.{Rose}
-use Rattle.spie_base.specs.Transfer.{Stands}
+use Rattle.spie_base.specs.Transfer.{AppendsFront}
 use Rattle.spie_base.specs.declared.Status.{Status}
 use Rattle.spie_base.specs.declared.Status.TheVariants as status
 use Rattle.trace_format.specs.Fault.{IsFault}
@@ -58,7 +58,7 @@ IsReadOut before after input = Consumes before after input × (IsAtEnd after ⊎
 -- a text is written whole, or a front of it stands and the sink has failed
 pub record Delivered (want answer : Status) (before after : Option (List ℕ)) (text : List ℕ) (faults now : ℕ) : Type 0 where
   pub later : faults ≤ now
-  pub outcome : ((answer ≡ want) × Appends before after text × (now ≡ faults)) ⊎ ((answer ≡ status.WriteFault) × Stands before after text × Rose faults now)
+  pub outcome : ((answer ≡ want) × Appends before after text × (now ≡ faults)) ⊎ ((answer ≡ status.WriteFault) × AppendsFront before after text × Rose faults now)
 
 -- the statuses of a run in which neither source nor sink failed, and whose words are right
 abbrev pub IsFaultless : Status → Type 0

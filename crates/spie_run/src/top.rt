@@ -3,7 +3,7 @@ ghost use Rattle.std.specs.Prelude.{◌≡◌, ◌≤◌, ◌↔◌, ◌⊎◌, 
 ghost use Rattle.std.specs.Io.KnownBytes.{Appends};
 ghost use Rattle.spie_base.specs.declared.Status.{Status};
 ghost use Rattle.spie_base.specs.Causes.{Rose};
-ghost use Rattle.spie_base.specs.Transfer.{Stands};
+ghost use Rattle.spie_base.specs.Transfer.{AppendsFront};
 ghost use Rattle.trace_format.specs.Sound.{IsSound};
 ghost use Rattle.spie_run.specs.Words.{is_replay};
 ghost use Rattle.spie_run.specs.Run.{Reports, Refuses, Answers, AnswersTrace, IsReadWhole, IsReadOut, Delivered, IsFaultless};
@@ -14,11 +14,8 @@ use spie_base::{NoMemory, ReadRefused, Sink, Source, Status, WriteFailed, read_a
 use std::alloc::Global;
 use std::sync::Wait;
 use std::thread::Threads;
-use trace_format::{ReadTraceRefused, Trace, read_trace};
+use trace_format::{MOST_BYTES, ReadTraceRefused, Trace, read_trace};
 use trace_replay::{first_unbuilt, replay_alone};
-
-// The greatest number of bytes of an input.
-const MOST: usize = 67108864;
 
 // What is written where there are more.
 const TOO_LONG: &[u8] = b"refused 0 too-long\n";
@@ -90,7 +87,7 @@ pub fn run<R: Threads + Wait + Sync, S: Source, K: Sink>(
     ensures refused { result ≡ Status.TraceRefused → (input : List ℕ) × (output : List ℕ)
         × IsReadOut (S.left source.old) (S.left source.new) input × Refuses input output × Appends (K.written sink.old) (K.written sink.new) output }
     ensures front { result ≡ Status.WriteFault → (input : List ℕ) × (status : Status) × (output : List ℕ)
-        × IsReadOut (S.left source.old) (S.left source.new) input × Answers status input output × Stands (K.written sink.old) (K.written sink.new) output }
+        × IsReadOut (S.left source.old) (S.left source.new) input × Answers status input output × AppendsFront (K.written sink.old) (K.written sink.new) output }
     ensures unwritten { (result ≡ Status.ReadFault ⊎ result ≡ Status.NoMemory) → sink.new ≡ sink.old }
 
     // When each status comes.
@@ -105,7 +102,7 @@ pub fn run<R: Threads + Wait + Sync, S: Source, K: Sink>(
     if !is_replay(words) {
         return Status::Usage;
     }
-    match read_all(alloc, source, MOST) {
+    match read_all(alloc, source, MOST_BYTES) {
         Ok(text) => match answer(alloc, &text) {
             Ok(reply) => deliver(sink, reply.status, &reply.text),
             Err(NoMemory) => Status::NoMemory,

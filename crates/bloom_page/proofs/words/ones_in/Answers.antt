@@ -10,7 +10,7 @@ loop-word-preserved c = record {
   within = ones_within c.loop-word.word-index _ (get_or c.args.words.now c.loop-word.word-index 0) (omega (arith, c.type_inv.words c.loop-word.word-index)) c.loop-word.invariant.within;
 }
 
-pub returns : goal.returns
-returns c =
+pub returns-clause-count : goal.returns-clause-count
+returns-clause-count c =
     c.loop-word.invariant.total ∙ ap (sum_by count_ones) (take_all c.loop-word.word-index c.args.words.now c.loop-word-test.false)
     ∙ sum_by-count_ones c.args.words.now (All-from_get_or (λ w. w < 2 ^ 64) c.args.words.now 0 (λ i within. omega (arith, c.type_inv.words i)))
