@@ -14,5 +14,9 @@ mod lines;
 pub use items::{Bad, CauseWord, Item};
 pub use lines::push_item;
 
+// For other texts of such lines.
+pub use fields::{push, push_count, push_field, push_number};
+pub use lines::{push_counted, push_word};
+
 #[cfg(test)]
 mod tests;

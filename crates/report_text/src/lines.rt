@@ -12,8 +12,8 @@ use reverse_flood::{Edge, Node};
 use spie_base::{NoMemory, PageNo, PageRange, RouterId};
 use topology::Topology;
 
-// Appends a line that is a word alone.
-fn push_word(out: &mut Vec<u8>, line: u64, word: &[u8]) -> Result<(), NoMemory>
+/// Appends a line of its number and a word.
+pub fn push_word(out: &mut Vec<u8>, line: u64, word: &[u8]) -> Result<(), NoMemory>
     ensures { OnOk result (out.new.items ≡ out.old.items ++ line_text line (word.now ∷ [])) }
 {
     push_number(out, line)?;
@@ -21,8 +21,8 @@ fn push_word(out: &mut Vec<u8>, line: u64, word: &[u8]) -> Result<(), NoMemory>
     push(out, b"\n")
 }
 
-// Appends a line that is a word and a number.
-fn push_counted(out: &mut Vec<u8>, line: u64, word: &[u8], count: u64) -> Result<(), NoMemory>
+/// Appends a line of its number, a word and a count.
+pub fn push_counted(out: &mut Vec<u8>, line: u64, word: &[u8], count: u64) -> Result<(), NoMemory>
     ensures { OnOk result (out.new.items ≡ out.old.items ++ line_text line (word.now ∷ decimal count ∷ [])) }
 {
     push_number(out, line)?;

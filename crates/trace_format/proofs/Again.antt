@@ -47,7 +47,7 @@ kind_again kind.Decap = refl
 base_back : (r : Result (List ℕ) FromHexError) (bytes : List ℕ) (n : ℕ) → r ≡ Ok bytes → n ≡ from_be_bytes w64 bytes → base_by r ≡ Ok n
 base_back r bytes n e q = rw (e, q) refl
 
-base_again : (digits : List ℕ) (n : ℕ) → IsBase digits n → base_of digits ≡ Ok n
+pub base_again : (digits : List ℕ) (n : ℕ) → IsBase digits n → base_of digits ≡ Ok n
 unfolding base_of
 base_again digits n b = base_back _ b.0 n b.1 b.2
 

@@ -8,7 +8,7 @@ use Rattle.trace_format.specs.declared.refused.WhyRefused.{WhyRefused}
 use Rattle.trace_format.specs.declared.refused.WhyRefused.TheVariants as why
 use Rattle.trace_format.specs.declared.words.Stage.{Stage}
 use Rattle.trace_format.specs.Before.{Known, known_of}
-use Rattle.trace_format.specs.Fault.{too_long, Stands, IsBad, IsRefused, RestBreaks, IsFault}
+use Rattle.trace_format.specs.Fault.{too_long, HasWord, IsBad, IsRefused, RestBreaks, IsFault}
 use Rattle.trace_format.specs.Reading.{read_line, read_lines, by_fields, refused, then_read, known_in, step, trace_by, read_of}
 use Rattle.trace_format.specs.Spelling.{Spells}
 use Rattle.trace_format.specs.Table.{first_of, table, breaks}
@@ -79,10 +79,10 @@ no_field known s false e = absurd (cc)
 says_nothing : (known : Known) (parts : List (List ℕ)) → by_fields known parts ≡ Err why.Field → (s : Said) → Spells s parts → ⊥
 says_nothing known parts e s sp = no_field known s (may_stand known.stage (word_said s)) (sym (spelled_reads known s parts sp) ∙ e)
 
-counted : (stage : Stage) (parts : List (List ℕ)) (st : Stands stage parts) → length (word_text st.w ∷ st.more) ≡ length parts
+counted : (stage : Stage) (parts : List (List ℕ)) (st : HasWord stage parts) → length (word_text st.w ∷ st.more) ≡ length parts
 counted stage parts st = ap length (sym st.are)
 
-by_trouble : (before : List Said) (text : List ℕ) (y : WhyRefused) → length text ≤ most_line_bytes → by_fields (known_of before) (fields text) ≡ Err y → (st : Stands (stage_of before) (fields text)) → Trouble (known_of before) st.w st.more y → IsBad before text y
+by_trouble : (before : List Said) (text : List ℕ) (y : WhyRefused) → length text ≤ most_line_bytes → by_fields (known_of before) (fields text) ≡ Err y → (st : HasWord (stage_of before) (fields text)) → Trouble (known_of before) st.w st.more y → IsBad before text y
 by_trouble before text y short e st (inl p) =
     let P : WhyRefused → Type 0 = λ v. IsBad before text v in
     let n : length (fields text) ≢ arity st.w = λ q. p.1 (counted (stage_of before) (fields text) st ∙ q) in

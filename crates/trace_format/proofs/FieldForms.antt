@@ -302,7 +302,7 @@ base_err_by : (r : Result (List ℕ) FromHexError) (y : WhyRefused) → base_by 
 base_err_by (Ok x) y e = absurd (cc)
 base_err_by (Err w) y e = err_is ℕ why.Field y e
 
-base_err : (field : List ℕ) (y : WhyRefused) → base_of field ≡ Err y → y ≡ why.Field
+pub base_err : (field : List ℕ) (y : WhyRefused) → base_of field ≡ Err y → y ≡ why.Field
 unfolding base_of
 base_err field y e = base_err_by _ y e
 

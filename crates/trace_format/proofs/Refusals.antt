@@ -7,7 +7,7 @@ use Rattle.std.specs.Prelude.{codes}
 use Rattle.std.specs.declared.option.Option.{Option}
 use Rattle.std.specs.declared.option.Option.TheVariants.{None, Some}
 use Rattle.trace_format.specs.Before.{Known}
-use Rattle.trace_format.specs.Fault.{Stands, HasNoWord}
+use Rattle.trace_format.specs.Fault.{HasWord, HasNoWord}
 use Rattle.trace_format.specs.Reading.{judged, name_in, number, kind_in, bytes_in, grown, step, line_by, by_fields, by_word, word_of, version_fields, version_line, shape_in, shape_line, router_fields, router_line, link_fields, link_line, begin_line, packet_line, fwd_fields, fwd_line, xf_fields, xf_line, rotate_line, archive_line, watch_fields, watch_line, tick_line, query_fields, query_line, end_line, front_in, times_in, back_in, judged_by}
 use Rattle.trace_format.specs.Spelling.{Spells, kind_word}
 use Rattle.trace_format.specs.Table.{first_broken}
@@ -216,7 +216,7 @@ true_false false t f = absurd (cc)
 
 -- a known word that may stand, and what is wrong behind it
 pub record Behind (known : Known) (parts : List (List ℕ)) (y : WhyRefused) : Type 0 where
-  pub stands : Stands known.stage parts
+  pub stands : HasWord known.stage parts
   pub trouble : Trouble known stands.w stands.more y
 
 abbrev pub PartsTrouble : Known → List (List ℕ) → WhyRefused → Type 0
@@ -226,20 +226,20 @@ word_is : (y : WhyRefused) → ErrIs why.Word y → y ≡ why.Word
 word_is y e = let q : why.Word ≡ y = cc in sym q
 
 -- the word of fields that begin with one
-stands_word : (known : Known) (f : List ℕ) (rest : List (List ℕ)) (st : Stands known.stage (f ∷ rest)) → word_of f ≡ Some st.w
+stands_word : (known : Known) (f : List ℕ) (rest : List (List ℕ)) (st : HasWord known.stage (f ∷ rest)) → word_of f ≡ Some st.w
 stands_word known f rest st = let q : f ≡ word_text st.w = first_same f rest (word_text st.w) st.more st.are in rw q (word_again st.w)
 
-none_stands : (known : Known) (f : List ℕ) (rest : List (List ℕ)) → word_of f ≡ None → Stands known.stage (f ∷ rest) → ⊥
+none_stands : (known : Known) (f : List ℕ) (rest : List (List ℕ)) → word_of f ≡ None → HasWord known.stage (f ∷ rest) → ⊥
 none_stands known f rest is st = let q = sym is ∙ stands_word known f rest st in absurd (cc)
 
-no_more : (known : Known) (f : List ℕ) (w : Word) (rest : List (List ℕ)) → word_of f ≡ Some w → may_stand known.stage w ≡ false → Stands known.stage (f ∷ rest) → ⊥
+no_more : (known : Known) (f : List ℕ) (w : Word) (rest : List (List ℕ)) → word_of f ≡ Some w → may_stand known.stage w ≡ false → HasWord known.stage (f ∷ rest) → ⊥
 no_more known f w rest is m st =
     let q : SomeWord w st.w = sym is ∙ stands_word known f rest st in
     let r : w ≡ st.w = some_word w st.w q in
     let t : may_stand known.stage w ≡ true = rw r st.comes in
     absurd (true_false (may_stand known.stage w) t m)
 
-no_part : (known : Known) → Stands known.stage [] → ⊥
+no_part : (known : Known) → HasWord known.stage [] → ⊥
 no_part known st = let q = st.are in absurd (cc)
 
 stands_by : (known : Known) (f : List ℕ) (w : Word) (rest : List (List ℕ)) (y : WhyRefused) (b : Bool) → word_of f ≡ Some w → may_stand known.stage w ≡ b → cond b (line_by known w rest) (Err why.Word) ≡ Err y → PartsTrouble known (f ∷ rest) y

@@ -8,7 +8,7 @@ use Rattle.trace_format.specs.declared.refused.WhyRefused.{WhyRefused}
 use Rattle.trace_format.specs.declared.refused.WhyRefused.TheVariants as why
 use Rattle.trace_format.specs.declared.words.Word.{Word}
 use Rattle.trace_format.specs.Before.{Known, known_of}
-use Rattle.trace_format.specs.Fault.{Stands, HasNoWord, IsBad, IsRefused, LastBreaks, LineBreaks, RestBreaks, IsFault}
+use Rattle.trace_format.specs.Fault.{HasWord, HasNoWord, IsBad, IsRefused, LastBreaks, LineBreaks, RestBreaks, IsFault}
 use Rattle.trace_format.specs.Reading.{read_line, read_lines, line_by, by_fields, by_word, refused, then_read, known_in, word_of, step, judged, read_of}
 use Rattle.trace_format.specs.Spelling.{Spells}
 use Rattle.trace_format.specs.Table.{first_broken}
@@ -40,35 +40,35 @@ spelled_count (said.Tick a) parts s = ap length s.0
 spelled_count (said.Query a b c) parts s = ap length s.0
 spelled_count said.End parts s = ap length s
 
-counted : (known : Known) (parts : List (List ℕ)) (st : Stands known.stage parts) → length (word_text st.w ∷ st.more) ≡ length parts
+counted : (known : Known) (parts : List (List ℕ)) (st : HasWord known.stage parts) → length (word_text st.w ∷ st.more) ≡ length parts
 counted known parts st = ap length (sym st.are)
 
-at_parts : (known : Known) (parts : List (List ℕ)) (st : Stands known.stage parts) (s : Said) → Spells s (word_text st.w ∷ st.more) → Spells s parts
+at_parts : (known : Known) (parts : List (List ℕ)) (st : HasWord known.stage parts) (s : Said) → Spells s (word_text st.w ∷ st.more) → Spells s parts
 at_parts known parts st s sp =
     let Q : List (List ℕ) → Type 0 = λ z. Spells s z in
     subst Q (sym st.are) sp
 
-stands_reads : (known : Known) (parts : List (List ℕ)) (st : Stands known.stage parts) → by_fields known parts ≡ line_by known st.w st.more
+stands_reads : (known : Known) (parts : List (List ℕ)) (st : HasWord known.stage parts) → by_fields known parts ≡ line_by known st.w st.more
 stands_reads known parts st = rw (st.are, word_again st.w, st.comes) refl
 
 abbrev ErrK : WhyRefused → Result Known WhyRefused
 ErrK y = Err y
 
-fields_by : (known : Known) (parts : List (List ℕ)) (st : Stands known.stage parts) (y : WhyRefused) → (length parts ≢ arity st.w) → Trouble known st.w st.more y → ErrK y ≡ Err why.Fields
+fields_by : (known : Known) (parts : List (List ℕ)) (st : HasWord known.stage parts) (y : WhyRefused) → (length parts ≢ arity st.w) → Trouble known st.w st.more y → ErrK y ≡ Err why.Fields
 fields_by known parts st y n (inl p) = ap (λ v. ErrK v) p.0
 fields_by known parts st y n (inr (inl p)) = absurd (n (sym (counted known parts st) ∙ p.1))
 fields_by known parts st y n (inr (inr j)) = absurd (n (spelled_count j.said parts (at_parts known parts st j.said j.spelled) ∙ ap arity j.word))
 
-mis_by : (known : Known) (parts : List (List ℕ)) (st : Stands known.stage parts) → (length parts ≢ arity st.w) → (r : Result Known WhyRefused) → line_by known st.w st.more ≡ r → r ≡ Err why.Fields
+mis_by : (known : Known) (parts : List (List ℕ)) (st : HasWord known.stage parts) → (length parts ≢ arity st.w) → (r : Result Known WhyRefused) → line_by known st.w st.more ≡ r → r ≡ Err why.Fields
 mis_by known parts st n (Ok new) e = let s = line_stepped known new st.w st.more e in absurd (n (spelled_count s.said parts (at_parts known parts st s.said s.spelled) ∙ ap arity s.word))
 mis_by known parts st n (Err y) e = fields_by known parts st y n (line_err known st.w st.more y e)
 
-field_by : (known : Known) (parts : List (List ℕ)) (st : Stands known.stage parts) (y : WhyRefused) → length parts ≡ arity st.w → ((s : Said) → Spells s parts → ⊥) → Trouble known st.w st.more y → ErrK y ≡ Err why.Field
+field_by : (known : Known) (parts : List (List ℕ)) (st : HasWord known.stage parts) (y : WhyRefused) → length parts ≡ arity st.w → ((s : Said) → Spells s parts → ⊥) → Trouble known st.w st.more y → ErrK y ≡ Err why.Field
 field_by known parts st y c none (inl p) = absurd (p.1 (counted known parts st ∙ c))
 field_by known parts st y c none (inr (inl p)) = ap (λ v. ErrK v) p.0
 field_by known parts st y c none (inr (inr j)) = absurd (none j.said (at_parts known parts st j.said j.spelled))
 
-form_by : (known : Known) (parts : List (List ℕ)) (st : Stands known.stage parts) → length parts ≡ arity st.w → ((s : Said) → Spells s parts → ⊥) → (r : Result Known WhyRefused) → line_by known st.w st.more ≡ r → r ≡ Err why.Field
+form_by : (known : Known) (parts : List (List ℕ)) (st : HasWord known.stage parts) → length parts ≡ arity st.w → ((s : Said) → Spells s parts → ⊥) → (r : Result Known WhyRefused) → line_by known st.w st.more ≡ r → r ≡ Err why.Field
 form_by known parts st c none (Ok new) e = let s = line_stepped known new st.w st.more e in absurd (none s.said (at_parts known parts st s.said s.spelled))
 form_by known parts st c none (Err y) e = field_by known parts st y c none (line_err known st.w st.more y e)
 

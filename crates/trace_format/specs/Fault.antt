@@ -16,7 +16,7 @@ use Rattle.trace_format.specs.declared.words.Stage.{Stage}
 use Rattle.trace_format.specs.declared.words.Word.{Word}
 
 -- these fields begin with a word that may stand here
-pub record Stands (here : Stage) (fields : List (List ℕ)) : Type 0 where
+pub record HasWord (here : Stage) (fields : List (List ℕ)) : Type 0 where
   pub w : Word
   pub more : List (List ℕ)
   pub are : fields ≡ word_text w ∷ more
@@ -24,16 +24,16 @@ pub record Stands (here : Stage) (fields : List (List ℕ)) : Type 0 where
 
 -- the first field is no word that may stand here
 abbrev pub HasNoWord : Stage → List (List ℕ) → Type 0
-HasNoWord here fields = Stands here fields → ⊥
+HasNoWord here fields = HasWord here fields → ⊥
 
 -- a word that may stand here, with another number of fields than its form has
 pub record IsMiscounted (here : Stage) (fields : List (List ℕ)) : Type 0 where
-  pub stands : Stands here fields
+  pub stands : HasWord here fields
   pub other : length fields ≢ arity stands.w
 
 -- a word that may stand here, with the right number of fields, of which one is not of its form
 pub record IsMisformed (here : Stage) (fields : List (List ℕ)) : Type 0 where
-  pub stands : Stands here fields
+  pub stands : HasWord here fields
   pub count : length fields ≡ arity stands.w
   pub nothing : (said : Said) → Spells said fields → ⊥
 

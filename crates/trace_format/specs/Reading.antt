@@ -11,6 +11,7 @@ use Rattle.packet_signature.specs.declared.rows.Kind.{Kind}
 use Rattle.packet_signature.specs.declared.rows.Kind.TheVariants as kind
 use Rattle.spie_base.specs.Decimal.{number_in as decimal_in}
 use Rattle.spie_base.specs.declared.types.Rules.{Rules}
+use Rattle.spie_base.specs.declared.types.TheConstants.{N_MOST}
 use Rattle.topology.specs.Layout.{with_router, with_link}
 use Rattle.trace_format.specs.Before.{Known, known_of, no_rules, number_of, whats, added}
 use Rattle.trace_format.specs.Fault.{too_long}
@@ -72,7 +73,7 @@ name_in field = if is_name field then Ok tt else Err why.Field
 unfoldable pub front_in : (k n limit span : List ℕ) → Result Rules WhyRefused
 front_in k n limit span = do
   k ← number k 1 8
-  n ← number n 6 16
+  n ← number n 6 N_MOST
   limit ← number limit 1 (2 ^ n)
   span ← number span 1 most_time
   Ok (record no_rules { k = k; n = n; limit = limit; span = span })

@@ -6,6 +6,7 @@ use Rattle.hex.specs.Hex.{decode_of, decode_sized}
 use Rattle.packet_signature.specs.declared.rows.Kind.{Kind}
 use Rattle.packet_signature.specs.declared.rows.Kind.TheVariants as kind
 use Rattle.spie_base.specs.declared.types.Rules.{Rules}
+use Rattle.spie_base.specs.declared.types.TheConstants.{N_MOST}
 use Rattle.trace_format.specs.Limits.{most_digits, most_time, most_number}
 use Rattle.trace_format.specs.Said.{Said}
 use Rattle.trace_format.specs.Said as said
@@ -32,7 +33,7 @@ kind_word kind.Decap = codes "decap"
 -- the numbers of a shape line that fix its pages
 pub record IsFront (r : Rules) : Type 0 where
   pub k : (1 ≤ r.k) × (r.k ≤ 8)
-  pub n : (6 ≤ r.n) × (r.n ≤ 16)
+  pub n : (6 ≤ r.n) × (r.n ≤ N_MOST)
   pub limit : (1 ≤ r.limit) × (r.limit ≤ 2 ^ r.n)
   pub span : (1 ≤ r.span) × (r.span ≤ most_time)
 

@@ -7,8 +7,9 @@ use crate::limits::{MOST_NUMBER, MOST_PACKET_BYTES, MOST_TIME};
 use crate::refused::WhyRefused;
 use crate::text::is_name;
 use packet_signature::Kind;
-use spie_base::{Rules, decimal};
+use spie_base::{N_MOST, Rules, decimal};
 
+/// A decimal number without needless zeros, from `least` to `most`; else the rule on fields.
 #[tactic(auto, unfolding(crate::specs::Reading::number))]
 pub fn number(field: &[u8], least: u64, most: u64) -> Result<u64, WhyRefused>
     ensures value { result ≡ number field.now least most }
@@ -27,6 +28,7 @@ pub fn packet_number(field: &[u8]) -> Result<u32, WhyRefused>
     Ok(number(field, 0, MOST_NUMBER)? as u32)
 }
 
+/// 16 hex digits of either case, as a number; else the rule on fields.
 #[tactic(auto, unfolding(crate::specs::Reading::base_of))]
 pub fn base_of(field: &[u8]) -> Result<u64, WhyRefused>
     ensures { result ≡ base_of field.now }
@@ -73,7 +75,7 @@ fn front_in(k: &[u8], n: &[u8], limit: &[u8], span: &[u8]) -> Result<Rules, WhyR
     ensures { result ≡ front_in k.now n.now limit.now span.now }
 {
     let k = number(k, 1, 8)? as u8;
-    let n = number(n, 6, 16)? as u8;
+    let n = number(n, 6, u64::from(N_MOST))? as u8;
     let limit = number(limit, 1, 1 << n)? as u32;
     let span = number(span, 1, MOST_TIME)?;
     Ok(Rules {

@@ -24,3 +24,9 @@ pub use items::{Line, Trace, What};
 pub use law::trace_or_fault;
 pub use reader::read_trace;
 pub use refused::{ReadTraceRefused, TraceRefused, WhyRefused};
+
+// For other texts of the same lines, fields and refusals.
+pub use fields::{base_of, number};
+pub use limits::{MOST_BYTES, MOST_LINE_BYTES};
+pub use steps::Stop;
+pub use text::{cut, split_into};

@@ -7,7 +7,7 @@ use Rattle.report_text.specs.declared.Item.TheVariants.{Query}
 use Rattle.trace_format.specs.declared.Trace.{Trace}
 use Rattle.trace_history.specs.History.{Event, recorded, rotated, archived, watched, ticked, queried, ended, History, Asked, LeftPage}
 use Rattle.trace_history.specs.Laws.{ReportIsOne}
-use Rattle.trace_history.specs.Report.{AreItems, AreQueryItems, AreItemsOf, left_item, pages_item, routers, graph_items}
+use Rattle.trace_history.specs.Report.{AreItems, AreQueryItems, left_item, pages_item, routers, graph_items}
 use Rattle.trace_history.specs.Sights.{net_at, start_of}
 
 -- a query has one graph, and so one answer

@@ -1,16 +1,15 @@
 -- In a segment where each record is in the page that is open at its line, the receipts are legal.
-use Rattle.std.proofs.Common.{◌≡◌, ℕ, zero, suc, ◌+◌, ◌-◌, ◌%◌, ◌<◌, ◌≤◌, Bool, true, false, cond, ◌==◌, ◌∷◌, [], ◌++◌, ◌⊎◌, ◌∙◌, sym, refl, subst, ap, inl, inr, ⊎_elim, List, length, arith, append-nil, length-append}
-use Rattle.std.specs.Prelude.{slice_get, Some, None}
-use Rattle.std.specs.Bool.{IsTrue}
+use Rattle.std.proofs.Common.{◌≡◌, ℕ, zero, suc, ◌+◌, ◌<◌, ◌≤◌, Bool, true, false, cond, ◌==◌, ◌∷◌, [], ◌++◌, ◌⊎◌, ◌∙◌, sym, refl, subst, ap, inl, inr, ⊎_elim, List, length, arith, append-nil, length-append}
+use Rattle.std.specs.Prelude.{slice_get, Some}
 use Rattle.std.specs.List.{Contains}
-use Rattle.std.proofs.lemmas.Bool.{false≢true, eq-eqb}
+use Rattle.std.proofs.lemmas.Bool.{false≢true}
 use Rattle.std.proofs.lemmas.Bool.Decides.{Decides-eqb}
 use Rattle.std.proofs.lemmas.List.Elements.{Contains-append_cases}
 use Rattle.spie_base.specs.declared.Rules.{Rules}
 use Rattle.trace_history.specs.Account.{Account, fill}
-use Rattle.trace_history.specs.History.{Event, recorded, rotated, archived, watched, ticked, queried, ended, Step, History, Hop, account, account_after, clock, with_entry, with_closing, after_tick}
+use Rattle.trace_history.specs.History.{Event, recorded, rotated, archived, watched, ticked, queried, ended, Step, History, Hop, account, account_after, clock, with_entry, with_closing}
 use Rattle.trace_history.specs.Pages.{open_page, is_due}
-use Rattle.trace_history.specs.Receipts.{is_barrier, segment, settled, open_at, Receipt, receipt_by, receipts, opened_by, openings, IsLegalFor, IsLegal, IsInTurn, IsSequential}
+use Rattle.trace_history.specs.Receipts.{segment, up_to_barrier, open_at, Receipt, receipt_by, receipts, opened_by, openings, IsLegalFor, IsInTurn, IsSequential}
 use Rattle.trace_history.specs.Laws.{SequentialIsLegal}
 use Rattle.trace_history.proofs.Lists.{has_none, has_one, has_first, has_later}
 
@@ -98,20 +97,20 @@ one_closing false false a t page e = omega arith
 one_closing true false a t page e = absurd (false≢true (sym e))
 one_closing false true a t page e = absurd (false≢true e)
 
-grow_by : (rules : Rules) (r line : ℕ) (history : History) (d : Event) → open_at rules r history ≡ open_at rules r (settled history) + length (openings r (segment history)) → open_at rules r (record { line = line; event = d } ∷ history) ≡ open_at rules r (settled (record { line = line; event = d } ∷ history)) + length (openings r (segment (record { line = line; event = d } ∷ history)))
+grow_by : (rules : Rules) (r line : ℕ) (history : History) (d : Event) → open_at rules r history ≡ open_at rules r (up_to_barrier history) + length (openings r (segment history)) → open_at rules r (record { line = line; event = d } ∷ history) ≡ open_at rules r (up_to_barrier (record { line = line; event = d } ∷ history)) + length (openings r (segment (record { line = line; event = d } ∷ history)))
 grow_by rules r line history (recorded hop page) e =
-    same_closings (hop.router == (account rules r history).router) (account rules r history) hop page ∙ e ∙ ap (λ (l : List ℕ). open_at rules r (settled history) + length l) (sym (append-nil (openings r (segment history))))
+    same_closings (hop.router == (account rules r history).router) (account rules r history) hop page ∙ e ∙ ap (λ (l : List ℕ). open_at rules r (up_to_barrier history) + length l) (sym (append-nil (openings r (segment history))))
 grow_by rules r line history (rotated router page) e =
     let one = one_closing (router == (account rules r history).router) (router == r) (account rules r history) (clock history) page (ap (λ (q : ℕ). router == q) (account_router rules r history)) in
     let n = length-append (openings r (segment history)) (opened_by r (rotated router page)) in
     omega (arith, one, n, e)
-grow_by rules r line history (archived router put kept) e = e ∙ ap (λ (l : List ℕ). open_at rules r (settled history) + length l) (sym (append-nil (openings r (segment history))))
-grow_by rules r line history (watched router sig answer) e = e ∙ ap (λ (l : List ℕ). open_at rules r (settled history) + length l) (sym (append-nil (openings r (segment history))))
+grow_by rules r line history (archived router put kept) e = e ∙ ap (λ (l : List ℕ). open_at rules r (up_to_barrier history) + length l) (sym (append-nil (openings r (segment history))))
+grow_by rules r line history (watched router sig answer) e = e ∙ ap (λ (l : List ℕ). open_at rules r (up_to_barrier history) + length l) (sym (append-nil (openings r (segment history))))
 grow_by rules r line history (ticked time left) e = omega arith
 grow_by rules r line history (queried asked left) e = omega arith
 grow_by rules r line history (ended left) e = omega arith
 
-grow : (rules : Rules) (r : ℕ) (history : History) → open_at rules r history ≡ open_at rules r (settled history) + length (openings r (segment history))
+grow : (rules : Rules) (r : ℕ) (history : History) → open_at rules r history ≡ open_at rules r (up_to_barrier history) + length (openings r (segment history))
 grow rules r [] = refl
 grow rules r (d ∷ history) = grow_by rules r d.line history d.event (grow rules r history)
 
@@ -123,9 +122,9 @@ opens_one false page k p n e is = absurd (none_there k p e)
 opens_one true page zero p n e is = let same : page ≡ p = cc in let at = is refl in omega arith
 opens_one true page (suc k) p n e is = absurd (none_there k p e)
 
-legal_by : (W r : ℕ) (rules : Rules) (line : ℕ) (history : History) (d : Event) → IsInTurn rules history d → IsLegalFor W r (open_at rules r (settled history)) (segment history) → IsLegalFor W r (open_at rules r (settled (record { line = line; event = d } ∷ history))) (segment (record { line = line; event = d } ∷ history))
+legal_by : (W r : ℕ) (rules : Rules) (line : ℕ) (history : History) (d : Event) → IsInTurn rules history d → IsLegalFor W r (open_at rules r (up_to_barrier history)) (segment history) → IsLegalFor W r (open_at rules r (up_to_barrier (record { line = line; event = d } ∷ history))) (segment (record { line = line; event = d } ∷ history))
 legal_by W r rules line history (recorded hop page) now h =
-    legal_more W r (open_at rules r (settled history)) (record { line = line; event = recorded hop page }) (segment history) h (record {
+    legal_more W r (open_at rules r (up_to_barrier history)) (record { line = line; event = recorded hop page }) (segment history) h (record {
       few = omega arith;
       stay = λ x i e.
           let same : ◌≡◌ {A = Receipt} (record { hop = hop; page = page }) x = has_one (record { hop = hop; page = page }) x i in
@@ -134,7 +133,7 @@ legal_by W r rules line history (recorded hop page) now h =
       opening = λ k p e. absurd (none_there k p e);
     })
 legal_by W r rules line history (rotated router page) now h =
-    let a = open_at rules r (settled history) in
+    let a = open_at rules r (up_to_barrier history) in
     let m = length (openings r (segment history)) in
     legal_more W r a (record { line = line; event = rotated router page }) (segment history) h (record {
       few = omega arith;
@@ -144,14 +143,14 @@ legal_by W r rules line history (rotated router page) now h =
           omega (arith, is);
     })
 legal_by W r rules line history (archived router put kept) now h =
-    legal_more W r (open_at rules r (settled history)) (record { line = line; event = archived router put kept }) (segment history) h (record { few = omega arith; stay = λ x i e. absurd (has_none x i); opening = λ k p e. absurd (none_there k p e) })
+    legal_more W r (open_at rules r (up_to_barrier history)) (record { line = line; event = archived router put kept }) (segment history) h (record { few = omega arith; stay = λ x i e. absurd (has_none x i); opening = λ k p e. absurd (none_there k p e) })
 legal_by W r rules line history (watched router sig answer) now h =
-    legal_more W r (open_at rules r (settled history)) (record { line = line; event = watched router sig answer }) (segment history) h (record { few = omega arith; stay = λ x i e. absurd (has_none x i); opening = λ k p e. absurd (none_there k p e) })
+    legal_more W r (open_at rules r (up_to_barrier history)) (record { line = line; event = watched router sig answer }) (segment history) h (record { few = omega arith; stay = λ x i e. absurd (has_none x i); opening = λ k p e. absurd (none_there k p e) })
 legal_by W r rules line history (ticked time left) now h = legal_none W r _
 legal_by W r rules line history (queried asked left) now h = legal_none W r _
 legal_by W r rules line history (ended left) now h = legal_none W r _
 
-sequential_segment : (W r : ℕ) (rules : Rules) (history : History) → IsSequential rules history → IsLegalFor W r (open_at rules r (settled history)) (segment history)
+sequential_segment : (W r : ℕ) (rules : Rules) (history : History) → IsSequential rules history → IsLegalFor W r (open_at rules r (up_to_barrier history)) (segment history)
 sequential_segment W r rules [] h = legal_none W r _
 sequential_segment W r rules (d ∷ history) h = legal_by W r rules d.line history d.event h.1 (sequential_segment W r rules history h.0)
 

@@ -1,5 +1,5 @@
 -- What is known of one router: what was recorded in its pages, its transforms, and its pages.
-use Rattle.std.specs.Prelude.{ℕ, ◌+◌, List, [], ◌∷◌, ◌++◌, filter, map, length, Bool, ◌&&◌, ◌==◌}
+use Rattle.std.specs.Prelude.{ℕ, ◌+◌, List, ◌∷◌, filter, map, length, Bool, ◌&&◌, ◌==◌}
 use Rattle.std.specs.List.{list_any, flat_map, range_with_len}
 use Rattle.spie_base.specs.declared.Rules.{Rules}
 use Rattle.spie_base.specs.declared.PageShape.{PageShape}

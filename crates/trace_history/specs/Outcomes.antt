@@ -7,8 +7,8 @@ use Rattle.std.specs.declared.cmp.Ordering.{Ordering}
 use Rattle.std.specs.declared.cmp.Ordering.TheVariants.{Less}
 use Rattle.spie_base.specs.declared.Rules.{Rules}
 use Rattle.trace_history.specs.Pages.{is_closed, is_expired, is_in_window}
-use Rattle.trace_history.specs.History.{Event, archived, ticked, queried, ended, Step, History, Asked, UnreadPage, GotPage, LeftPage, account, clock}
-use Rattle.trace_history.specs.Receipts.{settled}
+use Rattle.trace_history.specs.History.{Event, archived, ticked, queried, ended, History, Asked, UnreadPage, GotPage, LeftPage, account, clock}
+use Rattle.trace_history.specs.Receipts.{up_to_barrier}
 use Rattle.trace_history.specs.Sights.{is_unread}
 
 -- each item is below those after it
@@ -33,7 +33,7 @@ covers r history = flat_map (λ step. covered_by r step.event) history
 
 -- whether a page was expired at the last barrier of a history
 abbrev pub was_expired : Rules → (router : ℕ) → History → (page : ℕ) → Bool
-was_expired rules router history page = is_expired rules (account rules router (settled history)).closings (clock (settled history)) page
+was_expired rules router history page = is_expired rules (account rules router (up_to_barrier history)).closings (clock (up_to_barrier history)) page
 
 -- an archival covers the pages that are closed, were not expired at the last barrier, and were not put before
 pub record IsCovered (rules : Rules) (router : ℕ) (history : History) (page : ℕ) : Type 0 where

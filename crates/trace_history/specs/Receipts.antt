@@ -17,9 +17,9 @@ abbrev pub segment : History → History
 segment [] = []
 segment (step ∷ history) = if is_barrier step.event then [] else step ∷ segment history
 
-abbrev pub settled : History → History
-settled [] = []
-settled (step ∷ history) = if is_barrier step.event then step ∷ history else settled history
+abbrev pub up_to_barrier : History → History
+up_to_barrier [] = []
+up_to_barrier (step ∷ history) = if is_barrier step.event then step ∷ history else up_to_barrier history
 
 -- the page of a router that is open behind a history
 abbrev pub open_at : Rules → (router : ℕ) → History → ℕ
@@ -58,7 +58,7 @@ pub record IsLegalFor (W router a : ℕ) (seg : History) : Type 0 where
 abbrev pub IsLegal : (W : ℕ) → Rules → History → Type 0
 IsLegal W rules [] = Unit {0}
 IsLegal W rules (step ∷ history) =
-    IsLegal W rules history × (IsTrue (is_barrier step.event) → (router : ℕ) → IsLegalFor W router (open_at rules router (settled history)) (segment history))
+    IsLegal W rules history × (IsTrue (is_barrier step.event) → (router : ℕ) → IsLegalFor W router (open_at rules router (up_to_barrier history)) (segment history))
 
 -- a record is in the page that is open at its line, and a rotation opens the next
 abbrev pub IsInTurn : Rules → History → Event → Type 0

@@ -14,8 +14,8 @@ use Rattle.report_text.specs.Report.{item_text}
 use Rattle.trace_format.specs.declared.Trace.{Trace}
 use Rattle.trace_history.specs.declared.totals.Totals.{Totals}
 use Rattle.trace_history.specs.Pages.{open_page, is_due, is_expired}
-use Rattle.trace_history.specs.Account.{Account, below, fill, window}
-use Rattle.trace_history.specs.History.{Event, recorded, rotated, archived, watched, ticked, queried, ended, Step, History, WatchAnswer, seen, not_seen, unsure, Asked, UnreadPage, LeftPage, account, clock}
+use Rattle.trace_history.specs.Account.{below, fill, window}
+use Rattle.trace_history.specs.History.{Event, recorded, rotated, archived, watched, ticked, queried, ended, History, WatchAnswer, seen, not_seen, unsure, Asked, UnreadPage, LeftPage, account, clock}
 use Rattle.trace_history.specs.Sights.{net_at, start_of, used_at}
 
 abbrev pub router_id : ℕ → RouterId

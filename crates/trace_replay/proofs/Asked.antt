@@ -1,18 +1,16 @@
 -- A query's answer is the flood over what it reads.
-use Rattle.std.proofs.Common.{ℕ, zero, suc, ◌≡◌, ◌+◌, ◌*◌, ◌^◌, ◌<◌, ◌≤◌, ◌∷◌, [], ◌++◌, ◌∙◌, ◌↔◌, Bool, true, false, List, length, map, get_or, sym, ap, refl, subst, arith, append_assoc, append-nil, length-append}
-use Rattle.std.specs.Prelude.{slice_get, Some, None, unwrap_or, option_map, fold}
+use Rattle.std.proofs.Common.{ℕ, zero, suc, ◌≡◌, ◌+◌, ◌<◌, ◌≤◌, ◌∷◌, [], ◌++◌, ◌∙◌, Bool, false, List, length, map, get_or, sym, ap, refl, subst, arith, append-nil, length-append}
+use Rattle.std.specs.Prelude.{slice_get, Some, unwrap_or, option_map, fold}
 use Rattle.std.specs.declared.option.Option.{Option}
 use Rattle.std.specs.Bool.{IsTrue}
-use Rattle.std.specs.List.{Contains, flat_map, range_with_len}
+use Rattle.std.specs.List.{Contains}
 use Rattle.std.proofs.lemmas.Grind.{flat_map-append}
 use Rattle.spie_base.specs.declared.RouterId.{RouterId}
 use Rattle.spie_base.specs.declared.Sig.{Sig}
 use Rattle.bloom_page.specs.Sets.{PageSet, are_in}
-use Rattle.hash_family.specs.Positions.{positions_by, family_of}
+use Rattle.hash_family.specs.Positions.{positions_by}
 use Rattle.hash_family.proofs.PositionFacts.{marks_of-family}
 use Rattle.topology.specs.Layout.{is_linked}
-use Rattle.reverse_flood.specs.declared.Node.{Node}
-use Rattle.reverse_flood.specs.declared.Edge.{Edge}
 use Rattle.reverse_flood.specs.declared.Graph.{Graph}
 use Rattle.reverse_flood.specs.Flood.{Net, net_of, IsFlood}
 use Rattle.report_text.specs.declared.Item.{Item}
@@ -23,7 +21,7 @@ use Rattle.trace_format.specs.declared.What.{What}
 use Rattle.trace_format.specs.declared.What.TheVariants.{Query, End}
 use Rattle.trace_history.specs.declared.Totals.{Totals}
 use Rattle.trace_history.specs.Account.{Account, below, page_set, marks, shape_of}
-use Rattle.trace_history.specs.History.{Event, queried, ended, History, Answers, account}
+use Rattle.trace_history.specs.History.{queried, ended, History, Answers, account}
 use Rattle.trace_history.specs.Outcomes.{IsRead, puts}
 use Rattle.trace_history.specs.Report.{AreItemsOf, text_of, totals_of, with_answer, no_totals, pages_item, graph_items, answer_item}
 use Rattle.trace_history.specs.Sights.{net_at}

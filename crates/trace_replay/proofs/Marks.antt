@@ -1,6 +1,6 @@
 -- The set of a page's marks, with one more entry.
 use Rattle.std.proofs.Common.{ℕ, ◌≡◌, ◌≤◌, ◌<◌, ◌^◌, ◌∷◌, [], ◌++◌, ◌∙◌, Bool, true, false, ◌&&◌, ◌||◌, ◌==◌, List, sym, ap, refl, filter, arith}
-use Rattle.std.specs.List.{Contains, list_any, range_with_len}
+use Rattle.std.specs.List.{range_with_len}
 use Rattle.std.proofs.lemmas.Bool.{eq-eqb, false_from_ne_true}
 use Rattle.std.proofs.lemmas.List.Elements.{All-contains, filter_agree}
 use Rattle.std.proofs.lemmas.List.Folds.{list_any-append, list_any_none}

@@ -1,34 +1,21 @@
 -- What a query reads where each router has its first page alone.
-use Rattle.std.proofs.Common.{ℕ, zero, suc, ◌≡◌, ◌+◌, ◌<◌, ◌∷◌, [], ◌++◌, ◌∙◌, ◌↔◌, Bool, true, false, cond, ◌&&◌, ◌||◌, not, ◌==◌, List, length, map, filter, get_or, sym, ap, refl, subst, arith}
-use Rattle.std.specs.Prelude.{slice_get, Some, None, unwrap_or, option_map, nat_le}
-use Rattle.std.specs.declared.option.Option.{Option}
-use Rattle.std.specs.Bool.{IsTrue}
+use Rattle.std.proofs.Common.{ℕ, ◌≡◌, ◌+◌, ◌∷◌, [], ◌∙◌, Bool, true, false, cond, ◌&&◌, ◌||◌, not, List, length, map, filter, ap, refl, arith}
+use Rattle.std.specs.Prelude.{None, nat_le}
 use Rattle.std.proofs.lemmas.Bool.Decides.{nat_tests}
-use Rattle.std.specs.List.{Contains, list_any, flat_map, range_with_len}
+use Rattle.std.specs.List.{flat_map}
 use Rattle.spie_base.specs.declared.Rules.{Rules}
 use Rattle.spie_base.specs.declared.Sig.{Sig}
-use Rattle.bloom_page.specs.Sets.{PageSet, are_in}
-use Rattle.hash_family.specs.Positions.{positions_by, family_of}
-use Rattle.hash_family.proofs.PositionFacts.{marks_of-family}
-use Rattle.topology.specs.Layout.{is_linked}
-use Rattle.reverse_flood.specs.declared.Node.{Node}
-use Rattle.reverse_flood.specs.Flood.{Net, net_of}
-use Rattle.report_text.specs.declared.Item.{Item}
+use Rattle.bloom_page.specs.Sets.{are_in}
 use Rattle.report_text.specs.declared.Item.TheVariants.{Pages}
 use Rattle.trace_format.specs.declared.Trace.{Trace}
-use Rattle.trace_history.specs.Account.{Account, Held, held, Page, PageRow, Sight, below, window, hit, origins, undone, rows_in, page_set, marks, shape_of, holds_sig}
+use Rattle.trace_history.specs.Account.{Account, held, Page, PageRow, Sight, below, window, hit, origins, undone, rows_in, page_set, marks}
 use Rattle.trace_history.specs.History.{History, Asked, account, clock}
-use Rattle.trace_history.specs.Pages.{open_page, is_expired, is_in_window}
+use Rattle.trace_history.specs.Pages.{is_expired, is_in_window}
 use Rattle.trace_history.specs.Report.{pages_item, page_no, range_of}
-use Rattle.trace_history.specs.Sights.{net_at, sight_at, used_at, missing_at, page_at, is_missing, is_any}
-use Rattle.trace_history.proofs.Sequential.{account_router}
-use Rattle.trace_replay.specs.declared.pages.OpenPage.{OpenPage}
-use Rattle.trace_replay.specs.declared.state.State.{State}
-use Rattle.trace_replay.specs.Pages.{shows}
+use Rattle.trace_history.specs.Sights.{sight_at, used_at, missing_at, page_at, is_missing, is_any}
 use Rattle.trace_replay.specs.Printing.{first_page_item}
-use Rattle.trace_replay.specs.Standing.{IsOpenPage, IsPlain, Stands}
+use Rattle.trace_replay.specs.Standing.{IsPlain}
 use Rattle.trace_replay.proofs.Marks.{or-false}
-use Rattle.trace_replay.proofs.Nets.{AgreeBelow}
 
 -- a query that no shelf takes part in
 abbrev pub plain_query : ℕ → Sig → (time : ℕ) → Asked

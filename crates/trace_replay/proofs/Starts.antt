@@ -1,5 +1,5 @@
 -- How a replay starts, and how its lines follow one another.
-use Rattle.std.proofs.Common.{ℕ, ◌≡◌, ◌+◌, ◌*◌, ◌^◌, ◌≤◌, ◌<◌, ◌∷◌, [], ◌++◌, ◌∙◌, Bool, true, false, not, cond, ◌⊎◌, ⊎_elim, List, length, map, filter, get_or, take, sym, ap, refl, subst, arith, append-nil, below_more}
+use Rattle.std.proofs.Common.{ℕ, ◌≡◌, ◌+◌, ◌^◌, ◌<◌, ◌∷◌, [], ◌++◌, ◌∙◌, Bool, true, false, not, cond, ⊎_elim, List, length, filter, get_or, take, sym, ap, refl, subst, arith, append-nil}
 use Rattle.std.specs.Prelude.{Some, None, find, option_map}
 use Rattle.std.specs.declared.option.Option.{Option}
 use Rattle.std.specs.List.{Contains, All, range_with_len}
@@ -12,7 +12,7 @@ use Rattle.report_text.specs.Report.{item_text}
 use Rattle.trace_format.specs.declared.Line.{Line}
 use Rattle.trace_format.specs.declared.Trace.{Trace}
 use Rattle.trace_history.specs.Account.{Account, page_set, is_marked}
-use Rattle.trace_history.specs.History.{History, account}
+use Rattle.trace_history.specs.History.{account}
 use Rattle.trace_history.specs.declared.Totals.{Totals}
 use Rattle.trace_history.specs.Replay.{IsReplayed}
 use Rattle.trace_history.specs.Report.{AreItemsOf, no_totals}
@@ -22,7 +22,7 @@ use Rattle.trace_replay.proofs.Asked.{stands_printed}
 use Rattle.trace_replay.proofs.Named.{all_of}
 use Rattle.trace_replay.specs.declared.pages.OpenPage.{OpenPage}
 use Rattle.trace_replay.specs.declared.state.State.{State}
-use Rattle.trace_replay.specs.Standing.{IsOpenPage, IsEmptyPage, AreFew, Stands, Does, HasDone, PrintsReceipts}
+use Rattle.trace_replay.specs.Standing.{IsEmptyPage, AreFew, Stands, Does, HasDone, PrintsReceipts}
 use Rattle.trace_replay.specs.Printing.{entered_items}
 
 -- one line more

@@ -1,30 +1,27 @@
 -- What one line does to the history that a replay stands for.
-use Rattle.std.proofs.Common.{ℕ, ◌≡◌, ◌≢◌, ◌+◌, ◌*◌, ◌^◌, ◌≤◌, ◌<◌, ◌∷◌, [], ◌++◌, ◌∙◌, ◌⊎◌, Bool, true, false, cond, ◌==◌, List, Vec, length, map, get_or, set, sym, ap, refl, subst, inl, inr, ⊎_elim, arith, append_assoc, append-nil, length-append, length-set}
-use Rattle.std.specs.Prelude.{slice_get, Some, codes}
-use Rattle.std.specs.List.{Contains, flat_map}
+use Rattle.std.proofs.Common.{ℕ, ◌≡◌, ◌≢◌, ◌<◌, ◌∷◌, [], ◌++◌, ◌∙◌, Bool, true, false, cond, ◌==◌, List, length, get_or, set, sym, ap, refl, subst, append_assoc, append-nil, length-set}
+use Rattle.std.specs.Prelude.{slice_get, Some}
 use Rattle.std.proofs.lemmas.Bool.{false≢true, eq-eqb, eqb-true}
 use Rattle.std.proofs.lemmas.List.{map-append}
-use Rattle.std.proofs.lemmas.Grind.{flat_map-append, get_or-set_at}
+use Rattle.std.proofs.lemmas.Grind.{get_or-set_at}
 use Rattle.std.proofs.lemmas.List.{get_or_default, get_or-set_other}
 use Rattle.spie_base.specs.declared.RouterId.{RouterId}
 use Rattle.spie_base.specs.declared.Rules.{Rules}
 use Rattle.spie_base.specs.declared.Sig.{Sig}
 use Rattle.hash_family.specs.Positions.{positions_by, family_of}
 use Rattle.hash_family.proofs.PositionFacts.{marks_of-family}
-use Rattle.bloom_page.specs.Sets.{PageSet, united, set_of}
+use Rattle.bloom_page.specs.Sets.{PageSet, united}
 use Rattle.report_text.specs.declared.Item.{Item}
 use Rattle.report_text.specs.declared.Item.TheVariants as item
 use Rattle.trace_format.specs.declared.Line.{Line}
 use Rattle.trace_format.specs.declared.Trace.{Trace}
 use Rattle.trace_format.specs.declared.What.{What}
-use Rattle.trace_format.specs.declared.What.TheVariants.{Fwd, Query, End}
+use Rattle.trace_format.specs.declared.What.TheVariants.{Fwd}
 use Rattle.trace_history.specs.declared.Totals.{Totals}
-use Rattle.trace_history.specs.Account.{Account, Entry, shape_of, page_set, is_marked, marks}
-use Rattle.trace_history.specs.History.{Event, recorded, same, Hop, Step, History, Answers, account, account_after, clock, with_entry, LeftPage}
-use Rattle.trace_history.specs.Outcomes.{AreLeft, puts, covers}
-use Rattle.trace_history.specs.Pages.{open_page}
-use Rattle.trace_history.specs.Receipts.{open_at}
-use Rattle.trace_history.specs.Report.{AreItemsOf, text_of, totals_of, page_no}
+use Rattle.trace_history.specs.Account.{Account, shape_of, page_set}
+use Rattle.trace_history.specs.History.{recorded, same, Hop, History, Answers, account, with_entry}
+use Rattle.trace_history.specs.Outcomes.{AreLeft}
+use Rattle.trace_history.specs.Report.{page_no}
 use Rattle.trace_history.proofs.Lists.{has_none}
 use Rattle.trace_history.proofs.Sequential.{account_router}
 use Rattle.trace_replay.specs.declared.pages.OpenPage.{OpenPage}
@@ -32,7 +29,7 @@ use Rattle.trace_replay.specs.declared.state.Receipt.{Receipt}
 use Rattle.trace_replay.specs.declared.state.State.{State}
 use Rattle.trace_replay.specs.Pages.{Records}
 use Rattle.trace_replay.specs.Printing.{entered_items}
-use Rattle.trace_replay.specs.Standing.{IsOpenPage, IsPlain, Stands, IsStanding, AreFew, Does}
+use Rattle.trace_replay.specs.Standing.{IsOpenPage, IsPlain, IsStanding, AreFew, Does}
 use Rattle.trace_replay.proofs.Marks.{page_set_more}
 
 -- ---- a record

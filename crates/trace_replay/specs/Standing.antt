@@ -1,6 +1,5 @@
 -- What a replay stands for after some lines.
 use Rattle.std.specs.Prelude.{ℕ, ◌+◌, ◌*◌, ◌^◌, ◌<◌, ◌≤◌, ◌≡◌, List, [], ◌∷◌, ◌++◌, length, slice_index_or}
-use Rattle.bloom_page.specs.Sets.{PageSet}
 use Rattle.hash_family.specs.Positions.{family_of}
 use Rattle.spie_base.specs.declared.Rules.{Rules}
 use Rattle.reverse_flood.specs.declared.Graph.{Graph}
@@ -10,7 +9,7 @@ use Rattle.trace_format.specs.declared.Line.{Line}
 use Rattle.trace_format.specs.declared.Trace.{Trace}
 use Rattle.trace_history.specs.declared.Totals.{Totals}
 use Rattle.trace_history.specs.Account.{Account, shape_of, page_set}
-use Rattle.trace_history.specs.History.{Event, Step, History, Answers, IsHistoryOf, account}
+use Rattle.trace_history.specs.History.{Event, History, Answers, IsHistoryOf, account}
 use Rattle.trace_history.specs.Outcomes.{IsAllowed, puts}
 use Rattle.trace_history.specs.Receipts.{IsSequential}
 use Rattle.trace_history.specs.Report.{AreItemsOf, text_of, totals_of, with_answer, answer_item}

@@ -1,4 +1,4 @@
-use Rattle.std.proofs.Common.{◌≡◌, ◌∙◌, ap, ◌++◌, sym}
+use Rattle.std.proofs.Common.{◌∙◌, ap, ◌++◌}
 use Rattle.report_text.specs.declared.Item.{Item}
 use Rattle.report_text.specs.Report.{item_text}
 use Rattle.trace_replay.specs.Printing.{first_page_item}

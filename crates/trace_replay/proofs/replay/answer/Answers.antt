@@ -1,6 +1,4 @@
-use Rattle.std.proofs.Common.{refl, ◌∙◌, sym, subst, ◌≤◌, ◌+◌, ◌++◌, length, List, ℕ, ap}
-use Rattle.trace_history.specs.Report.{text_of}
-use Rattle.trace_replay.specs.Printing.{answer_items}
+use Rattle.std.proofs.Common.{refl}
 use Rattle.trace_replay.proofs.Texts.{longer}
 use Rattle.trace_replay.proofs.replay.answer.Goals as goal
 

@@ -1,6 +1,4 @@
-use Rattle.std.proofs.Common.{◌≡◌, ◌<◌, ◌∙◌, refl, sym, subst, List, ℕ, length}
-use Rattle.std.specs.Bool.{IsTrue}
-use Rattle.topology.specs.Layout.{is_linked}
+use Rattle.std.proofs.Common.{subst, List}
 use Rattle.reverse_flood.specs.Flood.{net_of, IsFlood}
 use Rattle.trace_replay.specs.declared.pages.OpenPage.{OpenPage}
 use Rattle.trace_replay.specs.Pages.{shows}

@@ -1,4 +1,4 @@
-use Rattle.std.proofs.Common.{◌≡◌, ◌∙◌, ◌<◌, ◌++◌, refl, ap, subst, ℕ, List, length, get_or}
+use Rattle.std.proofs.Common.{◌∙◌, ◌<◌, ◌++◌, refl, ap, subst, ℕ, List, get_or}
 use Rattle.report_text.specs.declared.Item.TheVariants.{Head}
 use Rattle.report_text.specs.Report.{item_text}
 use Rattle.trace_replay.specs.declared.pages.OpenPage.{OpenPage}
