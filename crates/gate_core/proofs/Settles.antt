@@ -1,0 +1,196 @@
+-- `settle` keeps the plane invariant.
+use Rattle.std.proofs.Common.{◌≡◌, ℕ, ◌+◌, ◌*◌, ◌/◌, ◌%◌, ◌^◌, ◌<◌, ◌≤◌, ◌≢◌, ◌↔◌, cond, nat_lt, eqb, List, length, get_or, set, sym, refl, ap, ◌∙◌, subst, inl, inr, ⊎_elim, arith}
+use Rattle.std.proofs.lemmas.List.{set-get_or}
+use mathlib.Core.Option.{some}
+use lib.ListN.{get_elem?}
+use Rattle.spie_base.specs.declared.PageShape.{PageShape}
+use Rattle.gate_core.specs.declared.states.PassState.{PassState}
+use Rattle.gate_core.specs.declared.states.PassState.TheVariants.{Idle, Looked, Inside, Visiting}
+use Rattle.gate_core.specs.declared.states.SlotPhase.{SlotPhase}
+use Rattle.gate_core.specs.declared.states.SlotPhase.TheVariants.{Free, Open, Sealed, Quiet}
+use Rattle.bloom_page.specs.Bits.{bit_in}
+use Rattle.gate_core.specs.Views.{Keeper, Duties, View, slot_at, collected_of}
+use Rattle.gate_core.specs.Acts.{inside_of, gate_word, bit_word, in_phase, with_duties, busy, after_settle, IsSealed}
+use Rattle.gate_core.specs.Invariant.{total, counts_in, in_slot, seal_bit, HasPage, IsLive, taken, page_bit, Marked, StateFits, SlotsFit, ActorFits, PlaneFits, PlaneInvariant}
+use Rattle.gate_core.proofs.Lists.{term_le}
+use Rattle.gate_core.proofs.Gates.{tested}
+use Rattle.gate_core.proofs.Slots.{page_same, used_same, phase_case, rephased}
+use Rattle.gate_core.proofs.Duty.{duty_kept}
+use Rattle.gate_core.proofs.Inside.{gate_counts, few_inside}
+
+sealed_is : (ph : SlotPhase) → IsSealed ph → ph ≡ Sealed
+sealed_is Free k = absurd k
+sealed_is Open k = absurd k
+sealed_is Sealed k = refl
+sealed_is (Quiet next) k = absurd k
+
+abbrev hit : ℕ → ℕ → ℕ
+hit t s = cond (eqb t s) 1 0
+
+hit_one : (t s : ℕ) → t ≡ s → hit t s ≡ 1
+hit_one t s e = tested (λ x. x ≡ 1) t s 1 0 (λ _. refl) (λ ne. absurd (ne e))
+
+module _ (shape : PageShape) (words : List ℕ) (views : List View) (id : ℕ) (v : View) (there : get_elem? views id ≡ some v) (role : v.role ≡ Keeper) (f : PlaneFits shape words views v.duties v.entries) (s : ℕ) (near : s < 4) (can : IsSealed (slot_at v.duties s).phase) where
+  abbrev d : Duties
+  d = v.duties
+
+  abbrev n : ℕ
+  n = get_or words (gate_word s) 0
+
+  abbrev d1 : Duties
+  d1 = record d { noted = n; noted_with = d.out + busy v.state }
+
+  abbrev d2 : Duties
+  d2 = in_phase d1 s (Quiet 0)
+
+  is_sealed : (slot_at d s).phase ≡ Sealed
+  is_sealed = sealed_is (slot_at d s).phase can
+
+  n_inside : inside_of n ≡ total (in_slot s) views
+  n_inside = gate_counts shape words views d v.entries f s near
+
+  few : total (in_slot s) views ≤ d.out + busy v.state
+  few = few_inside shape words views id v there role f s
+
+  slots1 : SlotsFit shape d1
+  slots1 = let k = f.slots in record {
+    four = k.four;
+    pointed_slot = k.pointed_slot;
+    pointed_used = k.pointed_used;
+    open_last = k.open_last;
+    stands_used = k.stands_used;
+    used_below = k.used_below;
+    used_apart = k.used_apart;
+    page_within = k.page_within;
+    placed = k.placed;
+    one_list = k.one_list;
+    taken_words = k.taken_words;
+    taken_short = k.taken_short;
+    fits = k.fits;
+  }
+
+  stage1 : (floor : ℕ) (st : PassState) → StateFits shape d floor st → StateFits shape d1 floor st
+  stage1 floor Idle k = k
+  stage1 floor (Looked t) k = k
+  stage1 floor (Inside t page sig m) k = k
+  stage1 floor (Visiting t gate) k = k
+
+  seat1 : (u : View) → ActorFits shape d u → ActorFits shape d1 u
+  seat1 u k = record {
+    state = stage1 u.floor u.state k.state;
+    entries = k.entries;
+    ordered = k.ordered;
+    last = k.last;
+    visits = λ i x at. let z = k.visits i x at in record { sealed_gate = z.sealed_gate; below = z.below; from_floor = z.from_floor; not_open = z.not_open };
+    floor = k.floor;
+    number = k.number;
+    base = k.base;
+    gone = k.gone;
+  }
+
+  pending : PlaneInvariant shape words (set views id (with_duties v d1))
+  pending = duty_kept shape words words views id v d1 there role f record {
+    long = f.long;
+    current_slot = f.current_slot;
+    gates = f.gates;
+    slots = slots1;
+    actors = λ j u at. seat1 u (f.actors j u at);
+    slot_words = f.slot_words;
+    collected_words = f.collected_words;
+    drained_words = f.drained_words;
+    free_words = f.free_words;
+    probes = λ i x at. let k = f.probes i x at in record { page_below = k.page_below; at_below = k.at_below; known = k.known; seen = k.seen; unseen = k.unseen };
+    noted = let a = n_inside in let b = few in omega arith;
+    out = refl;
+  }
+
+  -- ---- nobody is inside
+
+  module _ (none : inside_of n ≡ 0) where
+    within : s < length d.slots
+    within = let a = f.slots.four in omega arith
+
+    pages : (t : ℕ) → (slot_at d2 t).page ≡ (slot_at d t).page
+    pages = page_same d1 s (Quiet 0) within
+
+    uses : (t : ℕ) → (slot_at d2 t).used ≡ (slot_at d t).used
+    uses = used_same d1 s (Quiet 0) within
+
+    abbrev cases : (P : ℕ → SlotPhase → Type 0) → P s (Quiet 0) → ((t : ℕ) → t ≢ s → P t (slot_at d t).phase) → (t : ℕ) → P t (slot_at d2 t).phase
+    cases P = phase_case d1 s (Quiet 0) within P
+
+    stood : (t : ℕ) → HasPage (slot_at d2 t).phase → HasPage (slot_at d t).phase
+    stood = cases (λ t y. HasPage y → HasPage (slot_at d t).phase) (λ _. subst HasPage (sym is_sealed) tt) (λ t ne h. h)
+
+    stands : (t : ℕ) → HasPage (slot_at d t).phase → HasPage (slot_at d2 t).phase
+    stands = cases (λ t y. HasPage (slot_at d t).phase → HasPage y) (λ _. tt) (λ t ne h. h)
+
+    lives : (t : ℕ) → t ≢ s → IsLive (slot_at d t).phase → IsLive (slot_at d2 t).phase
+    lives = cases (λ t y. t ≢ s → IsLive (slot_at d t).phase → IsLive y) (λ ne. absurd (ne refl)) (λ t ne _ h. h)
+
+    was_open : (t : ℕ) → (slot_at d2 t).phase ≡ Open → (slot_at d t).phase ≡ Open
+    was_open = cases (λ t y. y ≡ Open → (slot_at d t).phase ≡ Open) (λ e. cc) (λ t ne h. h)
+
+    was_free : (t : ℕ) → (slot_at d2 t).phase ≡ Free → (slot_at d t).phase ≡ Free
+    was_free = cases (λ t y. y ≡ Free → (slot_at d t).phase ≡ Free) (λ e. cc) (λ t ne h. h)
+
+    as_taken : (t : ℕ) → taken (slot_at d2 t).phase ≡ taken (slot_at d t).phase
+    as_taken = cases (λ t y. taken y ≡ taken (slot_at d t).phase) (sym (ap taken is_sealed)) (λ t ne. refl)
+
+    as_sealed : (t : ℕ) → seal_bit (slot_at d2 t).phase ≡ seal_bit (slot_at d t).phase
+    as_sealed = cases (λ t y. seal_bit y ≡ seal_bit (slot_at d t).phase) (sym (ap seal_bit is_sealed)) (λ t ne. refl)
+
+    stage2 : (j : ℕ) (u : View) → get_elem? views j ≡ some u → (floor : ℕ) (st : PassState) → u.state ≡ st → StateFits shape d floor st → StateFits shape d2 floor st
+    stage2 j u at floor Idle is k = k
+    stage2 j u at floor (Looked t) is k = (k.0, uses t ∙ k.1, (let a = k.2 in let b = pages t in omega arith))
+    stage2 j u at floor (Inside t page sig m) is k = (
+      k.0,
+      uses t ∙ k.1,
+      (let a = k.2 in let b = pages t in omega arith),
+      k.3 ∙ sym (pages t),
+      lives t (λ e. let a = term_le (in_slot s) views j u at in let b : in_slot s u ≡ hit t s = ap (counts_in s) is in let c : hit t s ≡ 1 = hit_one t s e in let z = n_inside in absurd (omega arith)) k.4,
+      k.5,
+    )
+    stage2 j u at floor (Visiting t gate) is k = (k.0, uses t ∙ k.1, (let a = k.2 in let b = pages t in omega arith))
+
+    seat2 : (j : ℕ) (u : View) → get_elem? views j ≡ some u → ActorFits shape d u → ActorFits shape d2 u
+    seat2 j u at k = record {
+      state = stage2 j u at u.floor u.state refl k.state;
+      entries = k.entries;
+      ordered = k.ordered;
+      last = k.last;
+      visits = λ i x at'. let z = k.visits i x at' in record { sealed_gate = z.sealed_gate; below = z.below; from_floor = z.from_floor; not_open = λ t small o e. z.not_open t small (was_open t o) (sym (pages t) ∙ e) };
+      floor = let a = k.floor in let b = pages d.pointed in omega arith;
+      number = k.number;
+      base = k.base;
+      gone = k.gone;
+    }
+
+    bit_same : (t p : ℕ) → page_bit shape words d2 t p ≡ page_bit shape words d t p
+    bit_same t p = ap (λ (g : ℕ). cond (nat_lt (p / 64) (length (collected_of d g))) (bit_in (collected_of d g) p) (get_or words (bit_word shape t (p / 64)) 0 / 2 ^ (p % 64) % 2)) (pages t)
+
+    quiet : PlaneInvariant shape words (set views id (with_duties v d2))
+    quiet = duty_kept shape words words views id v d2 there role f record {
+      long = f.long;
+      current_slot = f.current_slot;
+      gates = λ t small. let a = pages t in let b = as_sealed t in f.gates t small ∙ (λ k. total (in_slot t) views + sym b k * 65536 + sym a k * 4294967296);
+      slots = rephased shape d1 s (Quiet 0) slots1 near (subst HasPage (sym is_sealed) tt) tt (λ e. cc) (sym (ap taken is_sealed));
+      actors = λ j u at. seat2 j u at (f.actors j u at);
+      slot_words = λ t small h p lt. let same = bit_same t p in let old = f.slot_words t small (stood t h) p lt in subst (λ (g : ℕ). (page_bit shape words d2 t p ≡ 1) ↔ Marked shape views g t p) (sym (pages t)) ((λ b. old.0 (sym same ∙ b)), (λ y. same ∙ old.1 y));
+      collected_words = f.collected_words;
+      drained_words = λ t small i lt. f.drained_words t small i (let e = as_taken t in omega arith);
+      free_words = λ t small free i lt. f.free_words t small (was_free t free) i lt;
+      probes = λ i x at. let k = f.probes i x at in record {
+        page_below = k.page_below;
+        at_below = k.at_below;
+        known = k.known;
+        unseen = k.unseen;
+        seen = λ one. ⊎_elim inl (λ (t, small, h, e, b). inr (t, small, stands t h, pages t ∙ e, bit_same t x.at ∙ b)) (k.seen one);
+      };
+      noted = let a = n_inside in let b = few in omega arith;
+      out = refl;
+    }
+
+  pub settles : PlaneInvariant shape (set words (gate_word s) n) (set views id (after_settle v s n))
+  settles = subst (λ (ws : List ℕ). PlaneInvariant shape ws (set views id (after_settle v s n))) (sym (set-get_or words (gate_word s) 0))
+      (tested (λ (e : Duties). PlaneInvariant shape words (set views id (with_duties v e))) (inside_of n) 0 d2 d1 quiet (λ _. pending))

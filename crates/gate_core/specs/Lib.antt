@@ -1,0 +1,13 @@
+pub mod Marks
+pub mod Views
+pub mod Acts
+pub mod Invariant
+pub mod Moves
+pub mod Core
+pub mod Kept
+pub mod Desks
+pub mod Writes
+pub mod Sound
+pub mod Start
+pub mod Play
+pub mod PageWords
