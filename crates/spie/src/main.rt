@@ -1,8 +1,10 @@
-//! spie: replays a trace of a hash-based traceback system, from standard input to standard output.
+//! spie: replays a trace of a hash-based traceback system, or plays a script of steps of a router's gate, from
+//! standard input to standard output.
 //!
-//! `spie replay 1 < trace > report`. It ends with the number of the run's status: 0 done, 2 the words are
-//! none of the forms, 3 the trace is refused, 4 the input can't be read, 5 the output can't be written,
-//! 6 there is no memory. What it does is the contract of `spie_run::run`; here stand only the edges.
+//! `spie replay 1 < trace > report`, `spie play < script > answers`. It ends with the number of the run's
+//! status: 0 done, 2 the words are none of the forms, 3 the input is refused, 4 the input can't be read,
+//! 5 the output can't be written, 6 there is no memory. What it does is the contract of `spie_run::run`;
+//! here stand only the edges.
 #![tactic(auto)]
 
 use spie_base::{IoSink, IoSource, NoMemory, Status};

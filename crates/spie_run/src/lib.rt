@@ -1,16 +1,19 @@
 //! The run of the program: its words, what it reads and what it writes.
 //!
 //! Its central contract is that of `run`, which carries the promise of the whole program: where it
-//! answers `Done`, the bytes that were read are a trace, and the bytes that were written are the report
-//! of a replay of it, by the definitions of `trace_format` and `trace_history`; each other status comes
-//! with its cause. Read `specs/Run.antt` first, then `top`.
+//! answers `Done`, the bytes that were read are a trace, or a script of `play`, and the bytes that were
+//! written are the report of a replay of it, or of its steps, by the definitions of `trace_format`,
+//! `trace_history` and `play_script`; each other status comes with its cause. Read `specs/Run.antt` first,
+//! then `top`.
 #![tactic(auto)]
 
 mod refusals;
+mod replies;
 mod top;
 mod words;
 
 pub use top::run;
+pub use words::Command;
 
 #[cfg(test)]
 mod tests;

@@ -133,6 +133,50 @@ fn trace_refusals(rt: HostRuntime) -> Result<(), Fail> {
     Ok(())
 }
 
+// Whether `play` on a script ends so, and with this output.
+fn plays<R: Threads + Wait + Sync + AllocGlobal>(
+    rt: &R,
+    script: &str,
+    status: Status,
+    output: &str,
+) -> Result<bool, Fail> {
+    let (ended, text) = ran(rt, &["play"], script, 9999, 100000)?;
+    Ok(ended == status && text.as_slice() == output.as_bytes())
+}
+
+// A pass comes to a gate that was sealed, drained and opened again meanwhile.
+#[test]
+fn play_a_visitor(rt: HostRuntime) -> Result<(), Fail> {
+    let alloc = rt.alloc();
+    let zeros = "00000000000000000000000000000000000000000000000000000000";
+    let front = format!(in alloc;
+        "spie-play 1\ncore 2 1 6 0000000000000000\n0 look\n0 enter {zeros}\nk seal\nk settle 0\nk drain 0\n0 set\n0 leave\nk settle 0\n1 look\n1 enter {zeros}\n"
+    )?;
+    let back = "k drain 0\nk open 0\nk point\nk seal\nk settle 0\n1 leave\nk settle 0\nend\n";
+    let script = format!(in alloc; "{front}{back}")?;
+    let first =
+        "spie-play-report 1\n3 slot 0\n4 in 0\n5 sealed 0\n6 pending 1\n7 not-enabled sealed,free,free,free\n8 set\n9 left\n10 quiet\n11 slot 0\n12 visiting 0\n";
+    let last =
+        "13 collected 0\n14 opened 1\n15 pointed 0\n16 sealed 1\n17 pending 1\n18 left\n19 quiet\npage 0 collected entries 1 bits 1\npage 1 quiet entries 0 bits 0\nend\n";
+    let output = format!(in alloc; "{first}{last}")?;
+    assert!(rt; plays(&rt, &script, Status::Done, &output)?);
+    for (body, refused) in [
+        ("0 look\n", "refused 4 ending\n"),
+        ("2 look\nend\n", "refused 3 field\n"),
+        ("0 seal\nend\n", "refused 3 field\n"),
+        ("k probe 0 64\nend\n", "refused 3 field\n"),
+        ("k open\nend\n", "refused 3 fields\n"),
+        ("end\nx\n", "refused 4 after\n"),
+    ] {
+        let script = format!(in alloc; "spie-play 1\ncore 2 1 6 0000000000000000\n{body}")?;
+        assert!(rt;
+            plays(&rt, &script, Status::TraceRefused, refused)?,
+            "{body}"
+        );
+    }
+    Ok(())
+}
+
 #[test]
 fn faults_and_usage(rt: HostRuntime) -> Result<(), Fail> {
     let alloc = rt.alloc();
@@ -150,6 +194,13 @@ fn faults_and_usage(rt: HostRuntime) -> Result<(), Fail> {
     }
     let (status, _) = ran(&rt, &[], &input, 0, 0)?;
     assert_eq!(rt; status, Status::Usage);
+    let (status, _) = ran(&rt, &["play", "1"], &input, 0, 0)?;
+    assert_eq!(rt; status, Status::Usage);
+    let (status, _) = ran(&rt, &["play"], &input, 0, 1000)?;
+    assert_eq!(rt; status, Status::ReadFault);
+    let (status, output) = ran(&rt, &["play"], "spie-play 1\n", 9999, 5)?;
+    assert_eq!(rt; status, Status::WriteFault);
+    assert_eq!(rt; *output.as_slice(), *b"refus".as_slice());
     Ok(())
 }
 

@@ -1,13 +1,35 @@
 // The words of the command line.
 ghost use Rattle.std.specs.Prelude.{◌≡◌, map, string_bytes};
-ghost use Rattle.spie_run.specs.Words.{is_replay};
+ghost use Rattle.spie_run.specs.Words.{command_of};
 
-/// Whether the words ask for a replay with one worker, the only form that is known.
-pub fn is_replay(words: &[String]) -> bool
-    ensures { result ≡ is_replay (map string_bytes words.now) }
+/// What the words of the command line ask for.
+#[derive(Clone, Copy, PartialEq, Eq, Debug)]
+pub enum Command {
+    /// `replay 1`: a trace is replayed by one worker.
+    Replay,
+    /// `play`: the steps of a script are done on the gate core.
+    Play,
+}
+
+/// What the words ask for, and `None` where they are none of the forms.
+pub fn command_of(words: &[String]) -> Option<Command>
+    ensures { result ≡ command_of (map string_bytes words.now) }
 {
     match words {
-        [command, workers] => command.as_str() == "replay" && workers.as_str() == "1",
-        _ => false,
+        [word] => {
+            if word.as_str() == "play" {
+                Some(Command::Play)
+            } else {
+                None
+            }
+        }
+        [word, workers] => {
+            if word.as_str() == "replay" && workers.as_str() == "1" {
+                Some(Command::Replay)
+            } else {
+                None
+            }
+        }
+        _ => None,
     }
 }

@@ -1,0 +1,12 @@
+pub mod Again
+pub mod Complete
+pub mod Counts
+pub mod Counting
+pub mod Fields
+pub mod Lines
+pub mod Meets
+pub mod Sole
+pub mod Standing
+pub mod Taken
+pub mod Whole
+pub mod Wording

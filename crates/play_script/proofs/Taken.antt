@@ -1,0 +1,77 @@
+-- What the reading of a line gives.
+use Rattle.std.proofs.Common.{ℕ, ◌≡◌, ◌≤◌, ◌<◌, List, ◌∷◌, length, refl, ap, sym, ◌∙◌, arith, Result, Ok, Err, Bool, true, false, cond, nat_lt}
+use Rattle.std.proofs.lemmas.Bool.Decides.{nat_tests}
+use Rattle.trace_format.specs.Limits.{most_line_bytes}
+use Rattle.trace_format.specs.Text.{fields}
+use Rattle.trace_format.specs.declared.refused.WhyRefused.{WhyRefused}
+use Rattle.trace_format.specs.declared.refused.WhyRefused.TheVariants as why
+use Rattle.play_script.proofs.Again.{IsNarrow, spelled_reads, taken}
+use Rattle.play_script.proofs.Meets.{known_at, Reason, Meets, fields_meet}
+use Rattle.play_script.specs.Before.{Known, known_of, script_of, how_many}
+use Rattle.play_script.specs.Fault.{FieldsBreak, IsBad}
+use Rattle.play_script.specs.Reading.{grown, line_at, read_line}
+use Rattle.play_script.specs.Said.{Said}
+use Rattle.play_script.specs.Said as said
+use Rattle.play_script.specs.Script.{IsLine}
+use Rattle.play_script.specs.Spelling.{Spells}
+use Rattle.play_script.specs.Words.{stage_of, may_stand, is_over}
+use Rattle.play_script.specs.declared.script.PlayScript.{PlayScript}
+use Rattle.play_script.specs.declared.words.Stage.{Stage}
+
+pub grown_known : (before : List Said) (s : Said) → grown (known_of before) s ≡ known_of (s ∷ before)
+unfolding grown
+grown_known before said.Version = refl
+grown_known before (said.Core passes shape) = refl
+grown_known before (said.Does step) = refl
+grown_known before said.End = refl
+
+-- a field that is refused belongs to a line that says nothing
+not_refused : (known : Known) (far : PlayScript) (s : Said) (b : Bool) → cond b (Err why.TooMany) (Ok (grown known s)) ≡ Err why.Field → ⊥
+not_refused known far s true e = absurd (cc)
+not_refused known far s false e = absurd (cc)
+
+says_nothing : (here : Stage) (read : ℕ) (far : PlayScript) (fields : List (List ℕ)) → IsNarrow far → line_at here (known_at here read far) fields ≡ Err why.Field → (s : Said) → may_stand here s ≡ true → Spells far s fields → ⊥
+says_nothing here read far fields narrow e s m sp = not_refused (known_at here read far) far s _ (sym (spelled_reads here read far s fields narrow m sp) ∙ e)
+
+-- what the fields break
+broken : (here : Stage) (read : ℕ) (far : PlayScript) (fields : List (List ℕ)) (y : WhyRefused) → IsNarrow far → line_at here (known_at here read far) fields ≡ Err y → Reason here far fields y → FieldsBreak here far fields y
+broken here read far fields why.Word narrow e w = w
+broken here read far fields why.Fields narrow e w = w
+broken here read far fields why.Field narrow e w = record { form = w.form; stands = w.stands; count = w.count; nothing = says_nothing here read far fields narrow e }
+broken here read far fields why.TooMany narrow e w = w
+broken here read far fields _ narrow e w = w
+
+-- what the reading of a line gives
+abbrev pub LineMeets : List Said → List ℕ → Result Known WhyRefused → Type 0
+LineMeets before line (Ok new) = (s : Said) × IsLine before line s × (new ≡ known_of (s ∷ before))
+LineMeets before line (Err y) = IsBad before line y
+
+as_bad : (before : List Said) (line : List ℕ) (y : WhyRefused) → length line ≤ most_line_bytes → FieldsBreak (stage_of before) (script_of before) (fields line) y → IsBad before line y
+as_bad before line why.Length short b = absurd b
+as_bad before line y short b = (short, b)
+
+short_meets : (before : List Said) (line : List ℕ) (r : Result Known WhyRefused) → IsNarrow (script_of before) → length line ≤ most_line_bytes → line_at (stage_of before) (known_of before) (fields line) ≡ r → Meets (stage_of before) (script_of before) (known_of before) (fields line) r → LineMeets before line r
+short_meets before line (Ok new) narrow short e m = (m.said, record { short = short; comes = m.comes; spelled = m.spelled; fits = m.fits }, m.grows ∙ grown_known before m.said)
+short_meets before line (Err y) narrow short e m = as_bad before line y short (broken (stage_of before) (how_many before) (script_of before) (fields line) y narrow e m)
+
+long_by : (n : ℕ) → nat_lt most_line_bytes n ≡ true → most_line_bytes < n
+long_by n e = grind (arith, nat_tests)
+
+short_by : (n : ℕ) → nat_lt most_line_bytes n ≡ false → n ≤ most_line_bytes
+short_by n e = grind (arith, nat_tests)
+
+line_meets_by : (before : List Said) (line : List ℕ) (b : Bool) → IsNarrow (script_of before) → is_over (stage_of before) ≡ false → nat_lt most_line_bytes (length line) ≡ b → LineMeets before line (cond b (Err why.Length) (line_at (stage_of before) (known_of before) (fields line)))
+line_meets_by before line true narrow o e = long_by (length line) e
+line_meets_by before line false narrow o e = short_meets before line _ narrow (short_by (length line) e) refl (fields_meet (stage_of before) (how_many before) (script_of before) (fields line) o)
+
+pub line_meets : (before : List Said) (line : List ℕ) → IsNarrow (script_of before) → is_over (stage_of before) ≡ false → LineMeets before line (read_line (known_of before) line)
+unfolding read_line
+line_meets before line narrow o = line_meets_by before line _ narrow o refl
+
+-- a line is read as what it says
+pub line_again : (before : List Said) (line : List ℕ) (s : Said) → IsNarrow (script_of before) → IsLine before line s → read_line (known_of before) line ≡ Ok (known_of (s ∷ before))
+unfolding read_line
+line_again before line s narrow l =
+    let t : nat_lt most_line_bytes (length line) ≡ false = let h = l.short in grind (arith, nat_tests) in
+    let r : line_at (stage_of before) (known_of before) (fields line) ≡ taken (known_of before) (script_of before) s = spelled_reads (stage_of before) (how_many before) (script_of before) s (fields line) narrow l.comes l.spelled in
+    rw (t, r, l.fits) (ap (λ v. Ok v) (grown_known before s))

@@ -1,0 +1,10 @@
+pub mod Limits
+pub mod Before
+pub mod Fault
+pub mod Reading
+pub mod Report
+pub mod Said
+pub mod Script
+pub mod Sound
+pub mod Spelling
+pub mod Words

@@ -1,0 +1,26 @@
+//! Reads the scripts of `play`: a router's passes and the shape of its pages, and steps of its gate, line by
+//! line; and writes what the steps answered.
+//!
+//! Its central contract is that of `read_play`: a text is read exactly where it is a script (`specs/Script`),
+//! and refused exactly with its first fault (`specs/Fault`). `script_or_fault` is the law that each text has
+//! one of the two, and only one. `play_text` gives the text of `specs/Report`. Lines, fields and refusals are
+//! those of `trace_format`. Read `specs/Spelling` for the form of each line and `specs/Words` for where it may
+//! stand, then `reader` and `report`.
+#![tactic(auto)]
+
+mod answers;
+mod draft;
+mod forms;
+mod law;
+mod pages;
+mod reader;
+mod report;
+mod script;
+#[cfg(test)]
+mod tests;
+mod words;
+
+pub use law::script_or_fault;
+pub use reader::read_play;
+pub use report::play_text;
+pub use script::PlayScript;
