@@ -3,9 +3,13 @@ use Rattle.std.specs.Prelude.{ℕ, ◌+◌, ◌-◌, ◌^◌, ◌≤◌, ◌≡�
 use Rattle.spie_base.specs.declared.errors.ReadRefused.{ReadRefused}
 use Rattle.spie_base.specs.declared.errors.ReadRefused.TheVariants.{Failed, TooLong, NoMemory}
 
--- the count has risen, or stands at the end of a counter of 64 bits
-abbrev pub Rose : ℕ → ℕ → Type 0
-Rose before now = min (before + 1) (2 ^ 64 - 1) ≤ now
+-- the count has risen by so many, or stands at the end of a counter of 64 bits
+abbrev pub RoseBy : (count before now : ℕ) → Type 0
+RoseBy count before now = min (before + count) (2 ^ 64 - 1) ≤ now
+
+-- the count has risen
+abbrev pub Rose : (before now : ℕ) → Type 0
+Rose before now = RoseBy 1 before now
 
 -- a fault comes only where the count rose, and anything else only where it stayed
 pub record HasCause {T E : Type 0} (before now : ℕ) (result : Result T E) : Type 0 where

@@ -2,9 +2,9 @@
 //! from and go, numbers as text, and what a flood sees of a router.
 //!
 //! Its central contracts are those of the traits: a source, a sink and a sighting are seen by ghost
-//! members alone (bytes, a count of faults, a test of signatures), so that everything above is proved
-//! once for all of them. Memory tells its bytes, failing calls included; a file, a pipe or a terminal
-//! tells its count of faults alone. Read `types`, `errors`, `source` and `sighting` first, then
+//! members alone (bytes, a count of faults, what a router shows), so that everything above is proved
+//! once for all of them. Memory tells its bytes, failing calls included; a reader or a writer of std
+//! hands through what std tells of it. Read `types`, `errors`, `source` and `sighting` first, then
 //! `transfer`, which moves whole inputs and outputs.
 #![tactic(auto)]
 
@@ -30,7 +30,6 @@ pub use source::{Sink, Source};
 pub use standard::{IoSink, IoSource};
 pub use status::Status;
 pub use transfer::{read_all, write_all};
-pub use types::{Marks, N_MOST, PageNo, PageRange, PageShape, RouterId, Rules, Sig};
-
-#[cfg(test)]
-mod tests;
+pub use types::{
+    Entry, K_MOST, Marks, N_LEAST, N_MOST, PageNo, PageRange, PageShape, RouterId, Rules, Sig,
+};

@@ -1,7 +1,8 @@
-// Sources and sinks over readers and writers of std. They tell nothing of their bytes: what a file, a
-// pipe or a terminal holds is trusted.
+// Sources and sinks over readers and writers of std. Of their bytes they tell what std tells: those of a reader
+// or writer over memory, and nothing of a file, a pipe or a terminal.
 ghost use Rattle.std.specs.Prelude.{◌≡◌, ◌≤◌, ◌<◌, None, IfOk, length};
 ghost use Rattle.std.specs.Io.{ReadsAtMost};
+ghost use Rattle.std.specs.Io.KnownBytes.{ReadConsumes, WriteAppends};
 
 use crate::{ReadFailed, Sink, Source, WriteFailed};
 use std::io::{ErrorKind, Read, Write};
@@ -11,9 +12,10 @@ const TRIES: u64 = u64::MAX;
 
 // One read, made again where a signal interrupts it.
 fn read_some<R: Read>(reader: &mut R, buf: &mut [u8]) -> Result<usize, ReadFailed>
-    ensures { ReadsAtMost result buf.new }
+    ensures bound { ReadsAtMost result buf.new }
+    ensures bytes { ReadConsumes (R.remaining reader.old) (R.remaining reader.new) result buf.new }
 {
-    for _ in 0..TRIES {
+    'tries: for _ in 0..TRIES {
         match reader.read(buf) {
             Ok(count) => return Ok(count),
             Err(error) if error.kind() == ErrorKind::Interrupted => {}
@@ -27,8 +29,9 @@ fn read_some<R: Read>(reader: &mut R, buf: &mut [u8]) -> Result<usize, ReadFaile
 fn write_some<W: Write>(writer: &mut W, piece: &[u8]) -> Result<usize, WriteFailed>
     ensures bound { IfOk result (λ count. count ≤ length piece.now) }
     ensures some { IfOk result (λ count. 0 < length piece.now → 0 < count) }
+    ensures bytes { WriteAppends (W.contents writer.old) (W.contents writer.new) result piece.now }
 {
-    for _ in 0..TRIES {
+    'tries: for _ in 0..TRIES {
         match writer.write(piece) {
             Ok(count) if count > 0 || piece.is_empty() => return Ok(count),
             Err(error) if error.kind() == ErrorKind::Interrupted => {}
@@ -46,13 +49,17 @@ pub struct IoSource<R: Read> {
 }
 
 impl<R: Read> IoSource<R> {
-    pub fn new(reader: R) -> Self {
+    /// Nothing was read yet, and no read has failed.
+    pub fn new(reader: R) -> Self
+        ensures left { ⟦<IoSource<R> as Source>⟧.left result ≡ R.remaining reader }
+        ensures faultless { ⟦<IoSource<R> as Source>⟧.faults result ≡ 0 }
+    {
         IoSource { reader, faults: 0 }
     }
 }
 
 impl<R: Read> Source for IoSource<R> {
-    ghost left = { λ s. None };
+    ghost left = { λ s. R.remaining s.reader };
 
     ghost faults = { λ s. s.faults };
 
@@ -68,7 +75,8 @@ impl<R: Read> Source for IoSource<R> {
 }
 
 /// A writer of std that counts its faults, of which a write of no byte is one. A write that a signal
-/// interrupts is made again and is no fault. Each piece is flushed as it is given, so no fault comes late.
+/// interrupts is made again and is no fault. It never flushes: give it a writer that writes through, as
+/// standard output does, or a fault that comes after the last piece is not seen.
 #[derive(Drop)]
 pub struct IoSink<W: Write> {
     writer: W,
@@ -76,31 +84,22 @@ pub struct IoSink<W: Write> {
 }
 
 impl<W: Write> IoSink<W> {
-    pub fn new(writer: W) -> Self {
-        IoSink { writer, faults: 0 }
-    }
-
-    // A write and a flush.
-    fn wrote(&mut self, piece: &[u8]) -> Result<usize, WriteFailed>
-        ensures bound { IfOk result (λ count. count ≤ length piece.now) }
-        ensures some { IfOk result (λ count. 0 < length piece.now → 0 < count) }
-        ensures kept { self.new.faults ≡ self.old.faults }
+    /// Nothing was written yet, and no write has failed.
+    pub fn new(writer: W) -> Self
+        ensures written { ⟦<IoSink<W> as Sink>⟧.written result ≡ W.contents writer }
+        ensures faultless { ⟦<IoSink<W> as Sink>⟧.faults result ≡ 0 }
     {
-        let count = write_some(&mut self.writer, piece)?;
-        match self.writer.flush() {
-            Ok(()) => Ok(count),
-            Err(_) => Err(WriteFailed),
-        }
+        IoSink { writer, faults: 0 }
     }
 }
 
 impl<W: Write> Sink for IoSink<W> {
-    ghost written = { λ s. None };
+    ghost written = { λ s. W.contents s.writer };
 
     ghost faults = { λ s. s.faults };
 
     fn give(&mut self, piece: &[u8]) -> Result<usize, WriteFailed> {
-        match self.wrote(piece) {
+        match write_some(&mut self.writer, piece) {
             Ok(count) => Ok(count),
             Err(WriteFailed) => {
                 self.faults = self.faults.saturating_add(1);

@@ -1,5 +1,11 @@
 // Plain values that the crates share.
 
+/// The greatest number of marks of a signature. The least is 1.
+pub const K_MOST: u8 = 8;
+
+/// The least number of bits of a position. The smallest page has 2^6 of them, one word.
+pub const N_LEAST: u8 = 6;
+
 /// The greatest number of bits of a position. The greatest page has 2^16 of them, 8 KiB.
 pub const N_MOST: u8 = 16;
 
@@ -29,6 +35,13 @@ pub struct PageRange {
     pub last: PageNo,
 }
 
+/// A signature that was recorded in a page.
+#[derive(Clone, Copy, PartialEq, Eq, Debug)]
+pub struct Entry {
+    pub page: PageNo,
+    pub sig: Sig,
+}
+
 /// The positions of a signature in a page: the first `count` places of `at`. Places from
 /// `count` on are 0. Two marks may be equal.
 #[derive(Clone, Copy, PartialEq, Eq, Debug)]
@@ -40,9 +53,9 @@ pub struct Marks {
 /// The rules of a trace, which all its routers share.
 #[derive(Clone, Copy, PartialEq, Eq, Debug)]
 pub struct Rules {
-    /// Marks of a signature, 1 to 8.
+    /// Marks of a signature, 1 to `K_MOST`.
     pub k: u8,
-    /// Bits of a position, 6 to 16.
+    /// Bits of a position, `N_LEAST` to `N_MOST`.
     pub n: u8,
     /// Set bits at which a tick closes a page, 1 to 2^n.
     pub limit: u32,
@@ -61,9 +74,9 @@ pub struct Rules {
 /// What fixes the positions of a signature in each page of a router.
 #[derive(Clone, Copy, PartialEq, Eq, Debug)]
 pub struct PageShape {
-    /// Marks of a signature, 1 to 8.
+    /// Marks of a signature, 1 to `K_MOST`.
     pub k: u8,
-    /// Bits of a position, 6 to 16.
+    /// Bits of a position, `N_LEAST` to `N_MOST`.
     pub n: u8,
     /// The seed from which the seeds of all pages are made.
     pub base: u64,

@@ -1,4 +1,4 @@
-use crate::{
+use spie_base::{
     IoSink, IoSource, List, MemSink, MemSource, ReadRefused, RouterId, Sig, Sink, Source, Status,
     ascending, decimal, read_all, write_all,
 };
