@@ -1,7 +1,7 @@
 -- A page as a set of positions.
 use Rattle.std.specs.Prelude.{ℕ, ◌≡◌, ◌≤◌, ◌+◌, ◌-◌, ◌*◌, ◌^◌, ◌==◌, Bool, ◌||◌, List, length, filter, map, sum, if◌then◌else◌}
 use Rattle.std.specs.List.{list_any, list_all, range_with_len}
-use Rattle.spie_base.specs.declared.types.TheConstants.{N_MOST}
+use Rattle.spie_base.specs.declared.types.TheConstants.{N_LEAST, N_MOST}
 
 -- a set of positions below 2 ^ n, as the ascending list of its members: equal sets are equal values
 pub record PageSet : Type 0 where
@@ -34,6 +34,6 @@ words_of page = map (word_of page.members) (range_with_len 0 (2 ^ (page.n - 6)))
 
 -- so many words that they have 2 ^ n bits, and n in its range
 pub record HasWords (n : ℕ) (words : List ℕ) : Type 0 where
-  pub n_least : 6 ≤ n
+  pub n_least : N_LEAST ≤ n
   pub n_most : n ≤ N_MOST
   pub count : length words ≡ 2 ^ (n - 6)

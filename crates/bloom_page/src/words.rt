@@ -4,12 +4,12 @@ ghost use Rattle.std.specs.List.{list_all};
 ghost use Rattle.bloom_page.specs.Bits.{is_set, members_of, with_bits};
 ghost use Rattle.bloom_page.specs.Sets.{PageSet, words_of};
 
-use spie_base::{Marks, N_MOST, NoMemory};
+use spie_base::{K_MOST, Marks, N_LEAST, N_MOST, NoMemory};
 use std::alloc::Global;
 
 /// Words of a page without members.
 pub fn zeros(alloc: Global, n: u8) -> Result<Vec<u64>, NoMemory>
-    requires least { 6 ≤ n }
+    requires least { N_LEAST ≤ n }
     requires most { n ≤ N_MOST }
     ensures { IfOk result (λ words. words.items ≡ replicate (2 ^ (n - 6)) 0) }
 {
@@ -24,7 +24,7 @@ pub fn gives_back(words: &[u64], n: u8)
 
 /// The marks in order.
 pub fn listed(marks: &Marks) -> &[u32]
-    requires { marks.now.count ≤ 8 }
+    requires { marks.now.count ≤ K_MOST }
     ensures { result.now ≡ take marks.now.count marks.now.at }
 {
     &marks.at[..usize::from(marks.count)]
@@ -32,7 +32,7 @@ pub fn listed(marks: &Marks) -> &[u32]
 
 /// Sets the bits at the marks.
 pub fn set_marks(words: &mut Vec<u64>, marks: &Marks)
-    requires few { marks.now.count ≤ 8 }
+    requires few { marks.now.count ≤ K_MOST }
     requires below { All (λ p. p < 64 * length words.old.items) (take marks.now.count marks.now.at) }
     ensures { words.new.items ≡ with_bits words.old.items (take marks.now.count marks.now.at) }
 {

@@ -1,3 +1,4 @@
+pub mod EntryFacts
 pub mod Filled
 pub mod PositionFacts
 mod StandardFacts

@@ -1,3 +1,4 @@
+pub mod Entries
 pub mod Positions
 pub mod Rows
 pub mod SplitMix

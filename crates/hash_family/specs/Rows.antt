@@ -1,7 +1,7 @@
 -- How a family keeps its coefficients, and the sum that makes a position.
-use Rattle.std.specs.Prelude.{ℕ, ◌≡◌, ◌<◌, ◌≤◌, ◌+◌, ◌-◌, ◌*◌, ◌%◌, ◌^◌, List, map, slice_get, slice_index, sum, Some}
+use Rattle.std.specs.Prelude.{ℕ, ◌≡◌, ◌<◌, ◌+◌, ◌-◌, ◌*◌, ◌%◌, ◌^◌, List, map, slice_get, slice_index, sum, Some}
 use Rattle.std.specs.List.{range_with_len}
-use Rattle.spie_base.specs.declared.types.TheConstants.{N_MOST}
+use Rattle.spie_base.specs.Shapes.{AreInRange}
 use Rattle.hash_family.specs.Positions.{coefficient}
 
 -- the coefficients of position i
@@ -16,7 +16,4 @@ weighed row words =
 -- k rows of this seed, and k and n in their ranges
 pub record IsDrawn (seed k n : ℕ) (rows : List (List ℕ)) : Type 0 where
   pub each : (i : ℕ) → i < k → slice_get rows i ≡ Some (row_of seed i)
-  pub k_least : 1 ≤ k
-  pub k_most : k ≤ 8
-  pub n_least : 6 ≤ n
-  pub n_most : n ≤ N_MOST
+  pub range : AreInRange k n

@@ -7,7 +7,7 @@ ghost use Rattle.hash_family.specs.Rows.{weighed};
 use crate::seeds::next_row;
 use rand_core::SeedableRng;
 use rand_xoshiro::SplitMix64;
-use spie_base::{Marks, N_MOST, Sig};
+use spie_base::{K_MOST, Marks, N_LEAST, N_MOST, Sig};
 use std::marker::Model;
 
 /// The hash functions of a page: for each mark a row of eight coefficients. 528 bytes, whatever the
@@ -36,8 +36,8 @@ impl Family {
     /// generator, and takes no memory.
     pub fn of(seed: u64, k: u8, n: u8) -> Family
         requires k_least { 1 ≤ k }
-        requires k_most { k ≤ 8 }
-        requires n_least { 6 ≤ n }
+        requires k_most { k ≤ K_MOST }
+        requires n_least { N_LEAST ≤ n }
         requires n_most { n ≤ N_MOST }
         ensures { result ≡ record { seed = seed; k = k; n = n } }
     {
@@ -53,7 +53,7 @@ impl Family {
     pub fn positions(&self, sig: &Sig) -> Marks
         ensures exact { result ≡ placed_by self.now sig.now }
         ensures count { result.count ≡ self.now.k }
-        ensures few { result.count ≤ 8 }
+        ensures few { result.count ≤ K_MOST }
         ensures marks { take result.count result.at ≡ positions_by self.now sig.now }
         ensures below { All (λ p. p < 2 ^ self.now.n) (take result.count result.at) }
     {

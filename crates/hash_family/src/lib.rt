@@ -9,8 +9,6 @@
 
 mod family;
 mod seeds;
-#[cfg(test)]
-mod tests;
 
 pub use family::Family;
 pub use seeds::page_seed;

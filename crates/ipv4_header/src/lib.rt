@@ -9,8 +9,6 @@
 mod fields;
 mod reading;
 mod sums;
-#[cfg(test)]
-mod tests;
 mod writing;
 
 pub use fields::{Header, HeaderRefused};

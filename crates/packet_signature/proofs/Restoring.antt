@@ -1,12 +1,15 @@
 -- The signature before a transform, from its row and the signature after it.
-use Rattle.std.proofs.Common.{◌≡◌, ℕ, ◌-◌, ◌≤◌, Bool, true, ◌&&◌, nat_eq, List, [], ◌∷◌, ◌++◌, length, take, drop, map, slice_index, slice_range, refl, sym, ap, subst, ◌∙◌, arith}
+use Rattle.std.proofs.Common.{◌≡◌, ℕ, ◌-◌, ◌≤◌, Bool, true, false, cond, ◌&&◌, nat_eq, List, [], ◌∷◌, ◌++◌, length, take, drop, map, slice_index, slice_range, refl, sym, ap, subst, ◌∙◌, arith}
 use Rattle.std.proofs.Math.Bool.{and_assoc}
 use Rattle.std.proofs.lemmas.List.{length-append, length-drop, length-take-le, take-append-drop, take_all}
 use Rattle.std.specs.List.{range_with_len}
 use Rattle.packet_signature.proofs.Places.{take-places}
 use Rattle.spie_base.specs.declared.types.Sig.{Sig}
-use Rattle.packet_signature.specs.Row.{agree, other_bytes, fragment_bytes, with_fragment_bytes, restored}
-use Rattle.packet_signature.specs.declared.rows.RowData.TheVariants.{Direct}
+use Rattle.packet_signature.specs.Row.{agree, other_bytes, fragment_bytes, with_fragment_bytes, restored, data_of, row_of, inverse_of}
+use Rattle.packet_signature.specs.Laws.{InverseGivesOld}
+use Rattle.packet_signature.specs.declared.rows.Kind.{Kind}
+use Rattle.packet_signature.specs.declared.rows.Kind.TheVariants.{Frag, Nat, Icmp, Ipip, Decap}
+use Rattle.packet_signature.specs.declared.rows.RowData.TheVariants.{Direct, Indirect}
 use Rattle.std.specs.Cmp.Lexicographic.{pointwise, same_text}
 
 -- pieces of equal lengths are compared one by one
@@ -77,3 +80,19 @@ with_fragment_bytes-own old new e f h =
 -- a direct row restores the old signature
 pub restored-direct : (old new : Sig) → length old.bytes ≡ 28 → length new.bytes ≡ 28 → true ≡ agree old new → restored (Direct (fragment_bytes old)) new ≡ old
 restored-direct old new e f h = with_fragment_bytes-own old new e f (same_text (other_bytes old) (other_bytes new) h)
+
+-- what a row keeps restores the old signature
+restored-kept : (kind : Kind) (old new : Sig) → length old.bytes ≡ 28 → length new.bytes ≡ 28 → restored (data_of kind old new) new ≡ old
+restored-kept Frag old new e f = by (agree old new) (λ h. restored-direct old new e f h)
+  where
+    by : (v : Bool) → (true ≡ v → restored (Direct (fragment_bytes old)) new ≡ old) → restored (cond v (Direct (fragment_bytes old)) (Indirect old)) new ≡ old
+    by true h = h refl
+    by false h = refl
+restored-kept Nat old new e f = refl
+restored-kept Icmp old new e f = refl
+restored-kept Ipip old new e f = refl
+restored-kept Decap old new e f = refl
+
+pub inverse_gives_old : InverseGivesOld
+unfolding row_of inverse_of
+inverse_gives_old kind old new e f = restored-kept kind old new e f

@@ -1,2 +1,3 @@
+pub mod Laws
 pub mod Row
 pub mod Signature

@@ -1,6 +1,6 @@
 // Making the row of a transform.
 ghost use Rattle.std.specs.Prelude.{◌≡◌, ◌↔◌, length, IsSome, IfSome};
-ghost use Rattle.packet_signature.specs.Row.{agree, data_of, fragment_bytes, inverse_of, key_of, other_bytes, restored, row_of};
+ghost use Rattle.packet_signature.specs.Row.{agree, data_of, fragment_bytes, inverse_of, key_of, other_bytes, restored, row_of, with_fragment_bytes};
 
 use crate::{Kind, Row, RowData};
 use byteorder::{BigEndian, ByteOrder};
@@ -68,5 +68,27 @@ pub fn row(kind: Kind, old: &Sig, new: &Sig) -> Row
         key: key(new),
         kind,
         old: kept(kind, old, new),
+    }
+}
+
+// The signature with other fragment bytes.
+fn with_fragment_bytes(sig: &Sig, bytes: &[u8; 4]) -> Sig
+    ensures { result ≡ with_fragment_bytes sig.now bytes.now }
+{
+    let mut old = *sig;
+    old.bytes[2..4].copy_from_slice(&bytes[..2]);
+    old.bytes[6..8].copy_from_slice(&bytes[2..]);
+    old
+}
+
+/// The signature before a transform, from its row and the signature after it: of a row of `row`, the old
+/// signature. Costs a copy of 28 bytes.
+#[tactic(auto, unfolding(crate::specs::Row::inverse_of))]
+pub fn inverse(row: &Row, sig: &Sig) -> Sig
+    ensures { result ≡ inverse_of row.now sig.now }
+{
+    match row.old {
+        RowData::Direct(bytes) => with_fragment_bytes(sig, &bytes),
+        RowData::Indirect(old) => old,
     }
 }

@@ -20,8 +20,5 @@ loop-i-preserved c = record {
 pub invariant_of-result : goal.invariant_of-result
 invariant_of-result c = record {
   each = λ i within. filled_at (row_of c.args.seed) 8 (replicate 8 0) c.loop-i.i c.loop-i.rows i c.loop-i.invariant.rows (omega arith);
-  k_least = c.requires.k_least;
-  k_most = c.requires.k_most;
-  n_least = c.requires.n_least;
-  n_most = c.requires.n_most;
+  range = record { k_least = c.requires.k_least; k_most = c.requires.k_most; n_least = c.requires.n_least; n_most = c.requires.n_most };
 }

@@ -9,7 +9,7 @@ use Rattle.hash_family.proofs.family.Family.positions.Goals as goal
 
 pub loop-i-preserved : goal.loop-i-preserved
 loop-i-preserved c =
-    let most = c.self.invariant.k_most in
+    let most = c.self.invariant.range.k_most in
     fill_more (position_by c.self.inside.seed c.self.inside.n c.args.sig.now) 8 0 _ _ _ (omega arith) c.loop-i.invariant
     (c.top_bits.ensures.value
     ∙ ap (λ total. total / 2 ^ (64 - c.self.inside.n))

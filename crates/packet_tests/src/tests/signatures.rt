@@ -1,5 +1,5 @@
-use crate::{Kind, Row, RowData, direct, key, row, signature};
 use ipv4_header::HeaderRefused;
+use packet_signature::{Kind, Row, RowData, direct, inverse, key, row, signature};
 use spie_base::Sig;
 use std::test::Fail;
 
@@ -49,6 +49,34 @@ const MESSAGE: (&str, &str) = (
     "4500003800060000000100000a0000090a0000010b00000000000000",
 );
 
+const PACKETS: [(&str, &str); 9] = [
+    FIRST,
+    FIRST_CHANGED,
+    TRANSLATED,
+    TRANSLATED_AGAIN,
+    TUNNELLED,
+    LARGE,
+    FRAGMENT,
+    LAST_FRAGMENT,
+    MESSAGE,
+];
+
+// A packet without payload, and the same with bytes behind its end.
+const EMPTY: [&str; 2] = [
+    "4500001400030000400100000a0000050a000006",
+    "4500001400030000400100000a0000050a000006ffff",
+];
+
+// Transforms with their old and new packet, and whether the row keeps the fragment bytes alone.
+const TRANSFORMS: [(Kind, (&str, &str), (&str, &str), bool); 6] = [
+    (Kind::Frag, LARGE, FRAGMENT, true),
+    (Kind::Frag, LARGE, LAST_FRAGMENT, false),
+    (Kind::Nat, LARGE, FRAGMENT, false),
+    (Kind::Nat, FIRST, TRANSLATED, false),
+    (Kind::Ipip, FIRST, TUNNELLED, false),
+    (Kind::Icmp, LARGE, MESSAGE, false),
+];
+
 // The signature of 28 bytes of hex.
 fn sig(text: &str) -> Result<Sig, Fail> {
     let mut sig = Sig { bytes: [0; 28] };
@@ -58,17 +86,7 @@ fn sig(text: &str) -> Result<Sig, Fail> {
 
 #[test]
 fn signs_packets(rt: HostRuntime) -> Result<(), Fail> {
-    for (packet, text) in [
-        FIRST,
-        FIRST_CHANGED,
-        TRANSLATED,
-        TRANSLATED_AGAIN,
-        TUNNELLED,
-        LARGE,
-        FRAGMENT,
-        LAST_FRAGMENT,
-        MESSAGE,
-    ] {
+    for (packet, text) in PACKETS {
         let bytes = hex::decode(rt.alloc(), packet)?;
         assert_eq!(rt; signature(&bytes), Ok(sig(text)?), "{packet}");
     }
@@ -89,10 +107,7 @@ fn signature_with_options(rt: HostRuntime) -> Result<(), Fail> {
 #[test]
 fn signature_padded(rt: HostRuntime) -> Result<(), Fail> {
     let text = "4500001400030000000100000a0000050a0000060000000000000000";
-    for packet in [
-        "4500001400030000400100000a0000050a000006",
-        "4500001400030000400100000a0000050a000006ffff",
-    ] {
+    for packet in EMPTY {
         let bytes = hex::decode(rt.alloc(), packet)?;
         assert_eq!(rt; signature(&bytes), Ok(sig(text)?), "{packet}");
     }
@@ -108,23 +123,34 @@ fn refuses_as_the_header_does(rt: HostRuntime) -> Result<(), Fail> {
 }
 
 #[test]
-fn makes_rows(rt: HostRuntime) -> Result<(), Fail> {
+fn makes_rows_and_inverts_them(rt: HostRuntime) -> Result<(), Fail> {
+    for (kind, before, after, is_direct) in TRANSFORMS {
+        let (old, new) = (sig(before.1)?, sig(after.1)?);
+        let kept = if is_direct {
+            RowData::Direct([0x05, 0xdc, 0, 0])
+        } else {
+            RowData::Indirect(old)
+        };
+        let made = row(kind, &old, &new);
+        assert_eq!(rt; made.old, kept);
+        assert_eq!(rt; made.key, key(&new));
+        assert_eq!(rt; made.kind, kind);
+        assert_eq!(rt; inverse(&made, &new), old);
+    }
+    Ok(())
+}
+
+#[test]
+fn tells_what_fragments_keep(rt: HostRuntime) -> Result<(), Fail> {
     let (large, fragment, last) = (sig(LARGE.1)?, sig(FRAGMENT.1)?, sig(LAST_FRAGMENT.1)?);
     assert_eq!(rt; direct(&large, &fragment), Some([0x05, 0xdc, 0, 0]));
     assert_eq!(rt; direct(&large, &last), None);
-    let kept = RowData::Direct([0x05, 0xdc, 0, 0]);
-    for (kind, new, old) in [
-        (Kind::Frag, fragment, kept),
-        (Kind::Frag, last, RowData::Indirect(large)),
-        (Kind::Nat, fragment, RowData::Indirect(large)),
-    ] {
-        let made = Row {
-            key: key(&new),
-            kind,
-            old,
-        };
-        assert_eq!(rt; row(kind, &large, &new), made);
-    }
+    let kept = Row {
+        key: key(&fragment),
+        kind: Kind::Frag,
+        old: RowData::Direct([0x05, 0xdc, 0, 0]),
+    };
+    assert_eq!(rt; inverse(&kept, &fragment), large);
     Ok(())
 }
 

@@ -1,0 +1,4 @@
+mod families;
+mod headers;
+mod pages;
+mod signatures;
