@@ -9,6 +9,7 @@ use Rattle.std.specs.Option.{option_copied}
 use Rattle.std.specs.Prelude.{is_some, IsSome}
 use Rattle.spie_base.specs.declared.Sig.{Sig}
 use Rattle.topology.specs.Layout.{Layout, is_linked}
+use Rattle.spie_base.proofs.Booleans.{or_false}
 use Rattle.reverse_flood.specs.declared.graphs.Node.{Node}
 use Rattle.reverse_flood.specs.declared.graphs.Edge.{Edge}
 use Rattle.reverse_flood.specs.Flood.{Net}
@@ -16,10 +17,6 @@ use Rattle.reverse_flood.specs.Found.{IsWay, found_net, origins_if_hit}
 use Rattle.reverse_flood.specs.Wider.{has_node, node_eq}
 use Rattle.reverse_flood.proofs.Orders.{same_node, node_laws}
 use Rattle.reverse_flood.proofs.Queues.{has_node-push}
-
-or_false : (v : Bool) → (v || false) ≡ v
-or_false true = refl
-or_false false = refl
 
 -- what is found after some pairs were asked
 abbrev pub found_of : Net → List Node → Node → Option (List Sig)
@@ -100,3 +97,8 @@ some_copied (Some r) p e h = refl
 
 pub origins_read : {X : Type 0} (o : Option (Bor (List X))) (p : Option (List X)) (r : Bor (List X)) → option_copied o ≡ p → o ≡ Some r → r.now ≡ unwrap_or p []
 origins_read o p r e is = sym (ap (λ q. unwrap_or q []) (sym e ∙ ap option_copied is))
+
+-- one more pair was found
+pub some_more : {X : Type 0} (b : Bool) (x : X) (o : Option X) → cond b true (is_some o) ≡ is_some (cond b (Some x) o)
+some_more true x o = refl
+some_more false x o = refl

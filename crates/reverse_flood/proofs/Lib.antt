@@ -1,9 +1,10 @@
-pub mod Lists
 pub mod Orders
 pub mod Queues
+pub mod RowFacts
 pub mod StepFacts
 pub mod Worklists
 pub mod FoundFacts
+pub mod OriginFacts
 pub mod WayFacts
 pub mod PartFacts
 pub mod Unique

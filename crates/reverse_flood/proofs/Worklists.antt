@@ -1,16 +1,19 @@
 -- The asked pairs, as the list of them grows.
 use Rattle.std.proofs.lemmas.List.Elements.{filter_more}
 use Rattle.std.proofs.lemmas.Bool.{false≢true}
-use Rattle.std.proofs.Common.{◌≡◌, ℕ, ◌+◌, ◌<◌, ◌≤◌, Bool, true, false, cond, ◌∷◌, [], ◌++◌, ◌⊎◌, ◌↔◌, sym, refl, subst, ap, ◌∙◌, inl, inr, ⊎_elim, List, length, take, get_or, arith, append_assoc, append-nil}
-use Rattle.std.specs.List.{Contains, filter}
-use Rattle.std.proofs.lemmas.List.{take_more, take-append-le, length-append}
+use Rattle.std.proofs.Common.{◌≡◌, ℕ, ◌+◌, ◌<◌, ◌≤◌, Bool, true, false, cond, ◌∷◌, [], ◌++◌, ◌⊎◌, ◌↔◌, sym, refl, subst, ap, ◌∙◌, inl, inr, ⊎_elim, List, length, take, get_or, arith, append_assoc, append-nil, IsTrue}
+use Rattle.std.specs.List.{Contains, filter, flat_map}
+use Rattle.std.proofs.lemmas.List.{take_more, take-append-le, length-append, map-append}
 use Rattle.std.proofs.Math.Seq.{take-length}
 use Rattle.std.proofs.lemmas.List.Elements.{Contains-append_left, Contains-append_right, Contains-append_cases, Contains-push_cases}
 use Rattle.std.proofs.lemmas.Map.Views.{Contains-from_any, list_any-from_Contains}
+use Rattle.spie_base.specs.declared.Sig.{Sig}
+use Rattle.spie_base.specs.declared.RouterId.{RouterId}
 use Rattle.reverse_flood.specs.declared.graphs.Node.{Node}
 use Rattle.reverse_flood.specs.Flood.{Net, IsHit, IsInside, IsStep, IsChain, IsNode, IsNext, IsAsked}
-use Rattle.reverse_flood.specs.Wider.{has_node, add_new, add_all, IsVisited}
-use Rattle.reverse_flood.proofs.Lists.{has_none, has_first, has_later, has_cases, has_one, from_filter, into_filter}
+use Rattle.reverse_flood.specs.Wider.{has_node, add_new, add_all, pair_with, pairs_with, IsVisited}
+use Rattle.spie_base.proofs.Membership.{has_none, has_first, has_later, has_cases, has_one, from_filter, into_filter, from_map, into_map, from_flat_map, into_flat_map}
+use Rattle.reverse_flood.proofs.StepFacts.{flat_map_next}
 use Rattle.reverse_flood.proofs.Orders.{same_node, node_laws}
 
 -- one more pair at the end of those to add
@@ -226,3 +229,74 @@ add_next xs ns i d before after l so_far is =
 -- a list has a pair exactly where the test says so
 pub has_node_iff : (xs : List Node) (n : Node) → (has_node xs n ≡ true) ↔ Contains xs n
 has_node_iff xs n = (Contains-from_any same_node n xs, list_any-from_Contains node_laws n xs)
+
+-- more pairs behind those to add
+pub add_all-append : (xs ns ms : List Node) → add_all xs (ns ++ ms) ≡ add_all (add_all xs ns) ms
+add_all-append xs [] ms = refl
+add_all-append xs (n ∷ ns) ms = add_all-append (add_new xs n) ns ms
+
+-- a turn of the loop over routers
+pub beside_next : (xs : List Node) (near : List RouterId) (sig : Sig) (i : ℕ) (d : RouterId) (before after : List Node) → i < length near → before ≡ add_all xs (pairs_with (take i near) sig) → after ≡ add_new before (pair_with sig (get_or near i d)) → after ≡ add_all xs (pairs_with (take (i + 1) near) sig)
+beside_next xs near sig i d before after l so_far is =
+    is ∙ ap (λ (b : List Node). add_new b (pair_with sig (get_or near i d))) so_far
+    ∙ sym (add_all-push xs (pairs_with (take i near) sig) (pair_with sig (get_or near i d)))
+    ∙ sym (ap (add_all xs) (map-append (pair_with sig) (take i near) (get_or near i d ∷ [])))
+    ∙ sym (ap (λ (rs : List RouterId). add_all xs (pairs_with rs sig)) (take_more near i d l))
+
+-- a turn of the loop over signatures
+pub steps_next : (xs : List Node) (near : List RouterId) (sigs : List Sig) (i : ℕ) (d : Sig) (before after : List Node) → i < length sigs → before ≡ add_all xs (flat_map (pairs_with near) (take i sigs)) → after ≡ add_all before (pairs_with near (get_or sigs i d)) → after ≡ add_all xs (flat_map (pairs_with near) (take (i + 1) sigs))
+steps_next xs near sigs i d before after l so_far is =
+    is ∙ ap (λ (b : List Node). add_all b (pairs_with near (get_or sigs i d))) so_far
+    ∙ sym (add_all-append xs (flat_map (pairs_with near) (take i sigs)) (pairs_with near (get_or sigs i d)))
+    ∙ sym (ap (add_all xs) (flat_map_next (pairs_with near) sigs i (get_or sigs i d) d l refl))
+
+-- what they add
+pub steps_has : (near : List RouterId) (sigs : List Sig) (n : Node) → Contains (flat_map (pairs_with near) sigs) n ↔ (Contains near n.router × Contains sigs n.sig)
+steps_has near sigs n = (
+  (λ h.
+      let p = from_flat_map (pairs_with near) sigs n h in
+      let i = from_map (pair_with p.of) near n p.in_piece in
+      let Near : RouterId → Type 0 = λ r. Contains near r in
+      let Has : Sig → Type 0 = λ s. Contains sigs s in
+      (subst Near (ap (λ (x : Node). x.router) i.is) i.has, subst Has (ap (λ (x : Node). x.sig) i.is) p.has)),
+  (λ s. into_flat_map (pairs_with near) sigs n.sig n s.1 (into_map (pair_with n.sig) near n.router s.0)),
+)
+
+-- a pair that is hit was asked: each router inside that is linked was added with each origin
+pub visited_near : (net : Net) (inside : ℕ → Bool) (before : List Node) (node : Node) (after : List Node) (near : List RouterId) (sigs : List Sig) → IsHit net node → ((q : RouterId) → Contains near q ↔ (IsTrue (net.linked node.router.number q.number) × (inside q.number ≡ true))) → sigs ≡ net.origins node → after ≡ add_all before (flat_map (pairs_with near) sigs) → IsVisited net inside before node after
+visited_near net inside before node after near sigs hit same origins is =
+    let steps = flat_map (pairs_with near) sigs in
+    let e = add_all_extends before steps in
+    let Has : List Node → Node → Type 0 = λ l n. Contains l n in
+    record {
+      added = e.added;
+      kept = is ∙ e.kept;
+      only = λ n a.
+          let s = (steps_has near sigs n).0 (e.only n a) in
+          let l = (same n.router).0 s.0 in
+          let From : List Sig → Type 0 = λ x. Contains x n.sig in
+          (hit, record { linked = l.0; origin = subst From origins s.1 }, l.1);
+      all = λ n _ step within.
+          let To : List Node → Type 0 = λ x. Contains x n in
+          let From : List Sig → Type 0 = λ x. Contains x n.sig in
+          subst To (sym is) (e.all n ((steps_has near sigs n).1 ((same n.router).1 (step.linked, within), subst From (sym origins) step.origin)));
+    }
+
+-- the routers of the pairs exist
+pub exist_near : (routers : ℕ) (before after : List Node) (near : List RouterId) (sigs : List Sig) → after ≡ add_all before (flat_map (pairs_with near) sigs) → ((n : Node) → Contains before n → n.router.number < routers) → ((q : RouterId) → Contains near q → q.number < routers) → (n : Node) → Contains after n → n.router.number < routers
+exist_near routers before after near sigs is old new n h =
+    let e = add_all_extends before (flat_map (pairs_with near) sigs) in
+    let Has : List Node → Type 0 = λ l. Contains l n in
+    ⊎_elim (old n) (λ a. new n.router ((steps_has near sigs n).0 (e.only n a)).0) (Contains-append_cases before e.added n (subst Has (is ∙ e.kept) h))
+
+-- all entries are in at the start
+pub entered_each : (entries start asked : List Node) → start ≡ [] → asked ≡ add_all start entries → (n : Node) → Contains asked n ↔ Contains entries n
+entered_each entries start asked none is n =
+    let e = add_all_extends start entries in
+    let Has : List Node → Type 0 = λ l. Contains l n in (
+      (λ h. ⊎_elim
+          (λ s. absurd (has_none n (subst Has none s)))
+          (λ a. e.only n a)
+          (Contains-append_cases start e.added n (subst Has e.kept (subst Has is h)))),
+      (λ h. subst Has (sym is) (e.all n h)),
+    )

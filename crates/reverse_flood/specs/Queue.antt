@@ -1,13 +1,14 @@
 -- The queue of asked pairs and its set.
-use Rattle.std.specs.Prelude.{◌≡◌, List}
-use Rattle.std.specs.HashSet.{contains}
+use Rattle.std.specs.Prelude.{◌≡◌, ◌<◌, length}
+use Rattle.std.specs.BTreeMap.{get}
+use Rattle.spie_base.specs.Order.{sig_cmp}
+use Rattle.topology.specs.declared.limits.TheConstants.{ROUTERS_MOST}
 use Rattle.reverse_flood.specs.declared.graphs.Node.{Node}
-use Rattle.reverse_flood.specs.declared.asked.Asked.TheInside.{Inside}
-use Rattle.reverse_flood.specs.Wider.{has_node, node_eq}
-
-abbrev pub queue_of : Inside → List Node
-queue_of a = a.queue.items
+use Rattle.reverse_flood.specs.declared.asked.Asked.{Asked}
+use Rattle.reverse_flood.specs.Rows.{AreRows, has_pair}
+use Rattle.reverse_flood.specs.Wider.{has_node}
 
 -- the set has the pairs of the queue
-pub record IsQueue (a : Inside) : Type 0 where
-  pub same : (n : Node) → contains node_eq a.seen n ≡ has_node a.queue.items n
+pub record IsQueue (a : Asked) : Type 0 where
+  pub rows : AreRows (get sig_cmp a.pairs.rows) (length a.pairs.flags.items)
+  pub same : (n : Node) → n.router.number < ROUTERS_MOST → has_pair (get sig_cmp a.pairs.rows) a.pairs.flags.items n ≡ has_node a.queue.items n

@@ -6,7 +6,7 @@ ghost use Rattle.reverse_flood.specs.declared.graphs.Graph.{Graph};
 ghost use Rattle.reverse_flood.specs.declared.graphs.Node.{Node};
 
 use crate::asks::ask;
-use crate::ways::{hits, unseen, ways_from};
+use crate::ways::{tell_apart, ways_from};
 use crate::{Graph, Node, Part};
 use spie_base::{List, NoMemory, Sighting, ascending};
 use std::alloc::Global;
@@ -24,20 +24,19 @@ pub fn flood_within<S: Sighting>(
 ) -> Result<Part, NoMemory>
     requires sights { length sights.now ≡ length topology.now.names }
     requires exist { (n : Node) → Contains entries.now n → n.router.number < length topology.now.names }
-    ensures part { IfOk result (IsPart (net_of S.hit S.origins S.has_missing sights.now topology.now) (is_within topology.now within) entries.now) }
+    ensures part { IfOk result
+        (IsPart (net_of S.shown sights.now topology.now) (is_within topology.now within) entries.now) }
 {
     let search = ask(alloc, topology, sights, within, entries)?;
     let found = search.found;
     let asked = ascending(search.asked);
-    let nodes = hits(alloc, &found, asked.items())?;
-    let unknown = unseen(alloc, sights, &found, true, asked.items())?;
-    let clear = unseen(alloc, sights, &found, false, asked.items())?;
-    let ways = ways_from(alloc, topology, &found, within, &nodes)?;
+    let told = tell_apart(alloc, sights, &found, asked.items())?;
+    let ways = ways_from(alloc, topology, &found, &search.hits, within, &told.nodes)?;
     Ok(Part {
-        nodes: List::of(nodes),
+        nodes: List::of(told.nodes),
         edges: ascending(ways.inner),
-        unknown: List::of(unknown),
-        clear: List::of(clear),
+        unknown: List::of(told.unknown),
+        clear: List::of(told.clear),
         exits: ascending(ways.outer),
     })
 }
@@ -52,7 +51,7 @@ pub fn flood<S: Sighting>(
 ) -> Result<Graph, NoMemory>
     requires sights { length sights.now ≡ length topology.now.names }
     requires exists { start.now.router.number < length topology.now.names }
-    ensures graph { IfOk result (IsFlood (net_of S.hit S.origins S.has_missing sights.now topology.now) start.now) }
+    ensures graph { IfOk result (IsFlood (net_of S.shown sights.now topology.now) start.now) }
 {
     let part = flood_within(alloc, topology, sights, None, &[*start])?;
     Ok(Graph {

@@ -11,12 +11,10 @@ mod asks;
 mod floods;
 mod graphs;
 mod laws;
+mod pairs;
 mod steps;
 mod ways;
 
 pub use floods::{flood, flood_within};
 pub use graphs::{Edge, Graph, Node, Part};
 pub use laws::{one_flood, one_part};
-
-#[cfg(test)]
-mod tests;

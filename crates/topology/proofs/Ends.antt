@@ -1,31 +1,15 @@
 -- What one more link does to the routers that are linked.
 use Rattle.std.proofs.Common.{◌≡◌, ℕ, ◌∷◌, [], ◌++◌, ◌⊎◌, ◌↔◌, inl, inr, ⊎_elim, ◌∙◌, ap, sym, subst, refl, List, Bool, true, false, ◌&&◌, ◌||◌, ◌==◌, IsTrue, arith}
-use Rattle.std.proofs.lemmas.Bool.{cases_Bool}
 use Rattle.std.proofs.lemmas.Bool.Decides.{Decides-eqb}
 use Rattle.std.proofs.lemmas.List.Folds.{list_any-append}
 use Rattle.std.specs.List.{list_any, Contains}
 use Rattle.std.specs.List.Sorted.{IsStrictlySortedBy}
 use Rattle.spie_base.specs.declared.RouterId.{RouterId}
 use Rattle.spie_base.specs.Order.{router_cmp}
+use Rattle.spie_base.proofs.Booleans.{and_true, and_false, or_false, one_holds, one_held}
+use Rattle.spie_base.proofs.Bounds.{differ}
 use Rattle.topology.specs.Layout.{joins, is_linked}
 use Rattle.topology.specs.Wired.{IsNear}
-
-or_false : (v : Bool) → (v || false) ≡ v
-or_false true = refl
-or_false false = refl
-
-or_left : (a b : Bool) → IsTrue a → IsTrue (a || b)
-or_left true b h = refl
-or_left false b h = absurd (let e : false ≡ true = h in cc)
-
-or_right : (a b : Bool) → b ≡ true → IsTrue (a || b)
-or_right true b h = refl
-or_right false b h = h
-
-pub or_cases : (a b : Bool) → IsTrue (a || b) → IsTrue a ⊎ (b ≡ true)
-or_cases true b h = inl refl
-or_cases false true h = inr refl
-or_cases false false h = absurd (let e : false ≡ true = h in cc)
 
 same_router : (a b : RouterId) → a.number ≡ b.number → a ≡ b
 same_router a b e = ap (λ n. let r : RouterId = record { number = n } in r) e
@@ -50,8 +34,8 @@ near_widened links link c near wider other h ordered same joined = record {
   ordered = ordered;
   same = λ q.
       let e : is_linked (links ++ link ∷ []) c q.number ≡ (is_linked links c q.number || other.number == q.number) = is_linked-push links link c q.number ∙ ap (λ v. is_linked links c q.number || v) (joined q.number) in (
-        (λ x. subst IsTrue (sym e) (⊎_elim (λ y. or_left _ _ ((h.same q).0 y)) (λ y. or_right _ _ ((Decides-eqb other.number q.number).1 (ap (λ (r : RouterId). r.number) (sym y)))) ((same q).0 x))),
-        (λ x. (same q).1 (⊎_elim (λ y. inl ((h.same q).1 y)) (λ y. inr (same_router q other (sym ((Decides-eqb other.number q.number).0 y)))) (or_cases _ _ (subst IsTrue e x)))),
+        (λ x. subst IsTrue (sym e) (⊎_elim (λ y. one_holds _ _ (inl ((h.same q).0 y))) (λ y. one_holds _ _ (inr ((Decides-eqb other.number q.number).1 (ap (λ (r : RouterId). r.number) (sym y))))) ((same q).0 x))),
+        (λ x. (same q).1 (⊎_elim (λ y. inl ((h.same q).1 y)) (λ y. inr (same_router q other (sym ((Decides-eqb other.number q.number).0 y)))) (one_held _ _ (subst IsTrue e x)))),
       );
 }
 
@@ -62,17 +46,6 @@ near_none links a none = record {
   ordered = tt;
   same = λ q. ((λ h. absurd (let within = h.1 in omega arith)), (λ h. absurd (none q.number h)));
 }
-
-differ : (a b : ℕ) → (a ≡ b → ⊥) → (a == b) ≡ false
-differ a b n = ⊎_elim (λ e. absurd (n ((Decides-eqb a b).0 e))) (λ e. e) (cases_Bool (a == b))
-
-and_true : (v : Bool) → (v && true) ≡ v
-and_true true = refl
-and_true false = refl
-
-and_false : (v : Bool) → (v && false) ≡ false
-and_false true = refl
-and_false false = refl
 
 -- who is joined by a link of a and b with a, with b, and with another router
 pub joined_first : (a b q : ℕ) → (a ≡ b → ⊥) → joins a q (a, b) ≡ (b == q)
@@ -87,3 +60,16 @@ joined_second a b q apart =
 pub joined_other : (a b c q : ℕ) → (c ≡ a → ⊥) → (c ≡ b → ⊥) → joins c q (a, b) ≡ false
 joined_other a b c q not_a not_b =
     ap (λ v. (v && (b == q)) || ((a == q) && (b == c))) (differ a c (λ e. not_a (sym e))) ∙ ap (λ v. (a == q) && v) (differ b c (λ e. not_b (sym e))) ∙ and_false (a == q)
+
+-- which routers the last link joins
+pub joined_ends : (a b x y : ℕ) → joins x y (a, b) ≡ true → ((a ≡ x) × (b ≡ y)) ⊎ ((a ≡ y) × (b ≡ x))
+joined_ends a b x y h = by (a == x) (b == y) (a == y) (b == x) (Decides-eqb a x).0 (Decides-eqb b y).0 (Decides-eqb a y).0 (Decides-eqb b x).0 h
+  where
+    by : (p q r s : Bool) → (p ≡ true → a ≡ x) → (q ≡ true → b ≡ y) → (r ≡ true → a ≡ y) → (s ≡ true → b ≡ x) → ((p && q) || (r && s)) ≡ true → ((a ≡ x) × (b ≡ y)) ⊎ ((a ≡ y) × (b ≡ x))
+    by true true r s f g i j e = inl (f refl, g refl)
+    by true false true true f g i j e = inr (i refl, j refl)
+    by false q true true f g i j e = inr (i refl, j refl)
+    by true false true false f g i j e = absurd (cc)
+    by true false false s f g i j e = absurd (cc)
+    by false q true false f g i j e = absurd (cc)
+    by false q false s f g i j e = absurd (cc)

@@ -1,9 +1,10 @@
 -- Routers with their regions, and the links between them.
 use Rattle.std.specs.Prelude.{◌≡◌, ◌<◌, ◌≤◌, ℕ, Bool, false, ◌&&◌, ◌||◌, ◌==◌, List, [], ◌∷◌, ◌++◌, length, nat_lt, Option, None, Some, slice_get, slice_index, IsTrue, if◌then◌else◌, refl}
 use Rattle.std.specs.Coded.{Coded, code_by, coded×, coded_ℕ, coded_list}
-use Rattle.std.specs.List.{list_any, position_or_len}
+use Rattle.std.specs.List.{list_any, filter, position_or_len}
 use Rattle.std.specs.Str.{bytes_eq}
 use Rattle.spie_base.specs.declared.RouterId.{RouterId}
+use Rattle.topology.specs.declared.limits.TheConstants.{ROUTERS_MOST, REGIONS_MOST, LINKS_MOST}
 
 -- the names of the routers, the names of the regions, each router's region, and the links, the oldest first.
 -- Routers and regions are known by their places. A link has two ends and no direction
@@ -63,14 +64,19 @@ with_link t a b = with_ends t (place_of t.names a) (place_of t.names b)
 abbrev pub IsEachOnce : List (List ℕ) → Type 0
 IsEachOnce names = (place : ℕ) (name : List ℕ) → slice_get names place ≡ Some name → place_of names name ≡ place
 
+-- each link stands once, in either direction: at most one joins two routers
+abbrev pub IsLinkedOnce : List (ℕ × ℕ) → Type 0
+IsLinkedOnce links = (a b : ℕ) → length (filter (joins a b) links) ≤ 1
+
 -- what holds of all routers, regions and links that were added one after another
 pub record IsSound (t : Layout) : Type 0 where
-  pub few_routers : length t.names ≤ 64
-  pub few_regions : length t.region_names ≤ 16
-  pub few_links : length t.links ≤ 512
+  pub few_routers : length t.names ≤ ROUTERS_MOST
+  pub few_regions : length t.region_names ≤ REGIONS_MOST
+  pub few_links : length t.links ≤ LINKS_MOST
   pub names : IsEachOnce t.names
   pub region_names : IsEachOnce t.region_names
   pub regions : length t.regions ≡ length t.names
   pub homes : (r : ℕ) → r < length t.names → slice_index t.regions r < length t.region_names
   pub ends : (a b : ℕ) → IsTrue (is_linked t.links a b) → (a < length t.names) × (b < length t.names)
   pub no_loops : (a : ℕ) → is_linked t.links a a ≡ false
+  pub links : IsLinkedOnce t.links

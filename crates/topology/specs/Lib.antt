@@ -1,3 +1,4 @@
 pub mod Layout
+pub mod Laws
 pub mod Refusals
 pub mod Wired

@@ -8,20 +8,14 @@ ghost use Rattle.topology.specs.Layout.{empty, router_named, is_linked, with_rou
 ghost use Rattle.topology.specs.Refusals as refusals;
 ghost use Rattle.topology.specs.Refusals.{fault_of};
 
-use crate::{TopologyRefused, names, near};
+use crate::{LINKS_MOST, REGIONS_MOST, ROUTERS_MOST, TopologyRefused, names, near};
 use spie_base::{List, NoMemory, RouterId};
 use std::alloc::Global;
 use std::collections::HashMap;
 use std::marker::Model;
 
-const MOST_ROUTERS: usize = 64;
-
-const MOST_REGIONS: usize = 16;
-
-const MOST_LINKS: usize = 512;
-
-/// Routers with their names and regions, and the links between them: at most 64 routers, 16 regions
-/// and 512 links. Contracts see it as its lists.
+/// Routers with their names and regions, and the links between them: at most `ROUTERS_MOST` routers,
+/// `REGIONS_MOST` regions and `LINKS_MOST` links. Contracts see it as its lists.
 #[derive(Debug, Drop)]
 pub struct Topology {
     names: Vec<List<u8>>,
@@ -30,6 +24,8 @@ pub struct Topology {
     links: Vec<(u32, u32)>,
     // each router by its name
     index: HashMap<Vec<u8>, RouterId>,
+    // by `names::hint_of`, the last router that was added with a name of that hint; a guess, that is tested
+    guesses: [u8; 256],
     // by router, those linked with it
     near: Vec<List<RouterId>>,
 }
@@ -58,15 +54,40 @@ impl Topology {
             regions: Vec::new(alloc),
             links: Vec::new(alloc),
             index: HashMap::new(alloc),
+            guesses: [0; 256],
             near: Vec::new(alloc),
         })
     }
 
-    /// The router with a name. Costs one look-up by hash.
+    // The router that is guessed, where it has this name.
+    fn guessed(&self, name: &[u8]) -> Option<RouterId>
+        ensures { IfSome result (λ id. router_named self.now.names name.now ≡ Some id) }
+    {
+        let guess = self.guesses[names::hint_of(name)];
+        let place = guess as usize;
+        if place < self.names.len() && self.names[place].items() == name {
+            return Some(RouterId {
+                number: u32::from(guess),
+            });
+        }
+        None
+    }
+
+    /// The router with a name. Costs mostly one comparison, and a look-up by hash where names are alike.
     pub fn find(&self, name: &[u8]) -> Option<RouterId>
         ensures exact { result ≡ router_named self.now.names name.now }
         ensures found { IfSome result (λ id. slice_get self.now.names id.number ≡ Some name.now) }
         ensures exists { IfSome result (λ id. id.number < length self.now.names) }
+    {
+        match self.guessed(name) {
+            Some(id) => Some(id),
+            None => self.indexed(name),
+        }
+    }
+
+    // The router with a name, by hash.
+    fn indexed(&self, name: &[u8]) -> Option<RouterId>
+        ensures { result ≡ router_named self.now.names name.now }
     {
         self.index.get(name).copied()
     }
@@ -126,7 +147,8 @@ impl Topology {
         ensures number { IfOk result (λ id. id.number ≡ length self.old.names) }
         ensures added { OnOk result (self.new ≡ with_router self.old name.now region.now) }
         ensures welcome { OnOk result (refusals.router_refusal self.old name.now region.now ≡ None) }
-        ensures refused { IfErr result (λ refused. refusals.router_refusal self.old name.now region.now ≡ fault_of refused) }
+        ensures refused { IfErr result (λ refused.
+            refusals.router_refusal self.old name.now region.now ≡ fault_of refused) }
         ensures same { OnErr result (self.new ≡ self.old) }
     {
         if let Some(refused) = self.router_refusal(name, region) {
@@ -147,10 +169,10 @@ impl Topology {
         if self.find(name).is_some() {
             return Some(TopologyRefused::DoubleName);
         }
-        if self.names.len() >= MOST_ROUTERS {
+        if self.names.len() >= ROUTERS_MOST {
             return Some(TopologyRefused::TooMany);
         }
-        if names::place_of(&self.region_names, region) >= MOST_REGIONS {
+        if names::place_of(&self.region_names, region) >= REGIONS_MOST {
             return Some(TopologyRefused::TooMany);
         }
         None
@@ -163,7 +185,7 @@ impl Topology {
     {
         let home = names::place_of(&self.region_names, region);
         let copy = names::copy_of(alloc, name)?;
-        let region = names::copy_of(alloc, region)?;
+        let region = names::copy_if_new(alloc, &self.region_names, home, region)?;
         let key = Vec::from_slice(alloc, name)?;
         self.names.reserve(1)?;
         self.region_names.reserve(1)?;
@@ -171,9 +193,10 @@ impl Topology {
         self.near.reserve(1)?;
         let number = self.names.len() as u32;
         self.index.insert(key, RouterId { number })?;
+        self.guesses[names::hint_of(name)] = number as u8;
         self.names.push(copy).unwrap();
         self.regions.push(home as u32).unwrap();
-        names::add_at(&mut self.region_names, home, region);
+        names::add_some(&mut self.region_names, region);
         self.near.push(List::of(Vec::new(alloc))).unwrap();
         Ok(())
     }
@@ -208,7 +231,7 @@ impl Topology {
             Some(TopologyRefused::SelfLink)
         } else if self.linked(a).contains(&b) {
             Some(TopologyRefused::DoubleLink)
-        } else if self.links.len() >= MOST_LINKS {
+        } else if self.links.len() >= LINKS_MOST {
             Some(TopologyRefused::TooMany)
         } else {
             None

@@ -15,7 +15,7 @@ pub enum TopologyRefused {
     SelfLink,
     /// The two routers are linked, in this direction or the other.
     DoubleLink,
-    /// There are 64 routers, 16 regions or 512 links.
+    /// There are `ROUTERS_MOST` routers, `REGIONS_MOST` regions or `LINKS_MOST` links.
     TooMany,
     /// Memory was refused.
     NoMemory,

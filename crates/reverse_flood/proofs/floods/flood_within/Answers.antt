@@ -8,43 +8,43 @@ use Rattle.reverse_flood.specs.Flood.{net_of, is_within, is_missing}
 use Rattle.reverse_flood.specs.Found.{IsWay, found_net, is_inner, is_outer, is_unseen}
 use Rattle.reverse_flood.specs.Wider.{node_eq}
 use Rattle.reverse_flood.proofs.FoundFacts.{is_some-origins, origins_of_hit, ways_same}
-use Rattle.reverse_flood.proofs.Lists.{from_filter}
+use Rattle.spie_base.proofs.Membership.{from_filter}
 use Rattle.reverse_flood.proofs.PartFacts.{part_is}
 use Rattle.reverse_flood.proofs.floods.flood_within.Goals as goal
 
 pub ways_from-requires-clause-exist : goal.ways_from-requires-clause-exist
 ways_from-requires-clause-exist g c = λ n h.
-    let net = net_of g.S.Sighting.hit g.S.Sighting.origins g.S.Sighting.has_missing c.args.sights.now c.args.topology.now in
+    let net = net_of g.S.Sighting.shown c.args.sights.now c.args.topology.now in
     let inside = is_within c.args.topology.now c.args.within in
     let asked = c.ascending-asked.result in
     let found = get node_eq c.in_ok-search.search.found in
     let known : Node → Bool = λ n. is_some (found n) in
-    let all_hits : c.deref.result.now ≡ filter known asked = c.deref.ensures.value ∙ c.in_ok-nodes.ensures ∙ ap (filter known) c.items.ensures in
+    let all_hits : c.deref.result.now ≡ filter known asked = c.deref.ensures.value ∙ c.in_ok-told.ensures.nodes ∙ ap (filter known) c.items.ensures in
     let Has : List Node → Type 0 = λ l. Contains l n in
     c.in_ok-search.ensures.exist n ((c.ascending-asked.ensures.same n).0 (from_filter known asked n (subst Has all_hits h)).0)
 
 pub ways_from-requires-clause-known : goal.ways_from-requires-clause-known
 ways_from-requires-clause-known g c = λ n h.
-    let net = net_of g.S.Sighting.hit g.S.Sighting.origins g.S.Sighting.has_missing c.args.sights.now c.args.topology.now in
+    let net = net_of g.S.Sighting.shown c.args.sights.now c.args.topology.now in
     let inside = is_within c.args.topology.now c.args.within in
     let asked = c.ascending-asked.result in
     let found = get node_eq c.in_ok-search.search.found in
     let known : Node → Bool = λ n. is_some (found n) in
-    let all_hits : c.deref.result.now ≡ filter known asked = c.deref.ensures.value ∙ c.in_ok-nodes.ensures ∙ ap (filter known) c.items.ensures in
+    let all_hits : c.deref.result.now ≡ filter known asked = c.deref.ensures.value ∙ c.in_ok-told.ensures.nodes ∙ ap (filter known) c.items.ensures in
     let Has : List Node → Type 0 = λ l. Contains l n in
     let is : is_some (found n) ≡ true = (from_filter known asked n (subst Has all_hits h)).1 in
     is
 
 pub returns : goal.returns
 returns g c =
-    let net = net_of g.S.Sighting.hit g.S.Sighting.origins g.S.Sighting.has_missing c.args.sights.now c.args.topology.now in
+    let net = net_of g.S.Sighting.shown c.args.sights.now c.args.topology.now in
     let inside = is_within c.args.topology.now c.args.within in
     let asked = c.ascending-asked.result in
     let found = get node_eq c.in_ok-search.search.found in
     let known : Node → Bool = λ n. is_some (found n) in
-    let all_hits : c.deref.result.now ≡ filter known asked = c.deref.ensures.value ∙ c.in_ok-nodes.ensures ∙ ap (filter known) c.items.ensures in
+    let all_hits : c.deref.result.now ≡ filter known asked = c.deref.ensures.value ∙ c.in_ok-told.ensures.nodes ∙ ap (filter known) c.items.ensures in
     let has : (n : Node) → Contains asked n → Contains c.in_ok-search.search.asked.items n = λ n h. (c.ascending-asked.ensures.same n).0 h in
-    let unseen : Bool → Node → Bool = is_unseen known (is_missing g.S.Sighting.has_missing c.args.sights.now) in
+    let unseen : Bool → Node → Bool = is_unseen known (is_missing g.S.Sighting.shown c.args.sights.now) in
     let nodes : c.deref.result.now ≡ c.of.result = c.deref.ensures.value ∙ sym c.of.ensures in
     let tells : (n : Node) → Contains asked n → known n ≡ net.hit n = λ n h. is_some-origins net n (found n) (c.in_ok-search.ensures.found n (has n h)) in
     let origins : (n : Node) → Contains c.deref.result.now n → unwrap_or (found n) [] ≡ net.origins n = λ n h.
@@ -62,9 +62,9 @@ returns g c =
       (λ h. (c.ascending-asked.ensures.same n).1 ((c.in_ok-search.ensures.asked n).1 h)),
     ))
     tells
-    (c.of.ensures ∙ c.in_ok-nodes.ensures ∙ ap (filter known) c.items.ensures)
-    (c.of-2.ensures ∙ c.in_ok-unknown.ensures ∙ ap (filter (unseen true)) c.items-2.ensures)
-    (c.of-3.ensures ∙ c.in_ok-clear.ensures ∙ ap (filter (unseen false)) c.items-3.ensures)
+    (c.of.ensures ∙ c.in_ok-told.ensures.nodes ∙ ap (filter known) c.items.ensures)
+    (c.of-2.ensures ∙ c.in_ok-told.ensures.unknown ∙ ap (filter (unseen true)) c.items.ensures)
+    (c.of-3.ensures ∙ c.in_ok-told.ensures.clear ∙ ap (filter (unseen false)) c.items.ensures)
     (record {
       ascending = c.ascending.ensures.ordered;
       same = λ e. (

@@ -1,0 +1,6 @@
+//! Tests of what `topology` and `reverse_flood` hand out. They stand in a crate of their own, so that those crates
+//! are proved once and not once more with their tests.
+#![tactic(auto)]
+
+#[cfg(test)]
+mod tests;

@@ -1,0 +1,2 @@
+mod floods;
+mod topologies;
