@@ -1,0 +1,4 @@
+pub mod Catalogues
+pub mod Laws
+pub mod Pages
+pub mod Private
