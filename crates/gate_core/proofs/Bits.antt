@@ -11,9 +11,10 @@ use Rattle.bloom_page.specs.Bits.{bit_in}
 use Rattle.hash_family.specs.Positions.{position}
 use Rattle.hash_family.proofs.PositionFacts.{position-below}
 use Rattle.bloom_page.proofs.WordFacts.{bits_of_words}
-use Rattle.gate_core.specs.Marks.{IsShape, width, size}
+use Rattle.gate_core.specs.Marks.{width, size}
+use Rattle.spie_base.specs.Shapes.{IsShape}
 use Rattle.gate_core.specs.Views.{Duties, slot_at, collected_of}
-use Rattle.gate_core.specs.Acts.{bit_word}
+use Rattle.gate_core.specs.Acts.{bit_place}
 use Rattle.gate_core.specs.Invariant.{HasPage, IsLive, taken, live_bit, page_bit, SlotsFit}
 use Rattle.gate_core.proofs.Frame.{page_bit_same}
 
@@ -54,7 +55,7 @@ two_bits x y a b e f = omega arith
 -- the word of the position q gets its bit: what is set then
 module _ (shape : PageShape) (words : List ℕ) (d : Duties) (s q : ℕ) (fit : SlotsFit shape d) (near : s < 4) (live : IsLive (slot_at d s).phase) (long : length words ≡ 5 + 4 * width shape) (below : q < size shape) where
   abbrev at : ℕ
-  at = bit_word shape s (q / 64)
+  at = bit_place shape s (q / 64)
 
   abbrev word : ℕ
   word = get_or words at 0
@@ -65,12 +66,12 @@ module _ (shape : PageShape) (words : List ℕ) (d : Duties) (s q : ℕ) (fit : 
   within : at < length words
   within = let w : ℕ = width shape in let a : q / 64 < w = omega arith in let b : s * w ≤ 3 * w = mul-le-mul_right w (let g : s ≤ 3 = omega arith in g) in let x : ℕ = s * w in let b' : x ≤ 3 * w = b in let l : length words ≡ 5 + 4 * w = long in omega arith
 
-  pub other_word : (t i : ℕ) → i < width shape → (t ≢ s) ⊎ (i ≢ q / 64) → get_or fuller (bit_word shape t i) 0 ≡ get_or words (bit_word shape t i) 0
-  other_word t i lt ne = get_or-set_other words at (bit_word shape t i) (bit_or word (2 ^ (q % 64))) 0
+  pub other_word : (t i : ℕ) → i < width shape → (t ≢ s) ⊎ (i ≢ q / 64) → get_or fuller (bit_place shape t i) 0 ≡ get_or words (bit_place shape t i) 0
+  other_word t i lt ne = get_or-set_other words at (bit_place shape t i) (bit_or word (2 ^ (q % 64))) 0
       (λ e. let w : ℕ = width shape in let same : t ≡ s = one_slot w t s i (q / 64) lt (let a : q / 64 < w = omega arith in a) e in ⊎_elim (λ x. x same) (λ x. x (let e' : 5 + s * w + i ≡ 5 + s * w + q / 64 = subst (λ (z : ℕ). 5 + z * w + i ≡ 5 + s * w + q / 64) same e in omega arith)) ne)
 
   here_word : (p : ℕ) → p / 64 ≡ q / 64 → live_bit shape fuller s p ≡ max (word / 2 ^ (p % 64) % 2) (2 ^ (q % 64) / 2 ^ (p % 64) % 2)
-  here_word p e = ap (λ (i : ℕ). get_or fuller (bit_word shape s i) 0 / 2 ^ (p % 64) % 2) e ∙ (ap (λ (x : ℕ). x / 2 ^ (p % 64) % 2) (get_or-set_same words at (bit_or word (2 ^ (q % 64))) 0 within) ∙ bit_at_or word (2 ^ (q % 64)) (p % 64))
+  here_word p e = ap (λ (i : ℕ). get_or fuller (bit_place shape s i) 0 / 2 ^ (p % 64) % 2) e ∙ (ap (λ (x : ℕ). x / 2 ^ (p % 64) % 2) (get_or-set_same words at (bit_or word (2 ^ (q % 64))) 0 within) ∙ bit_at_or word (2 ^ (q % 64)) (p % 64))
 
   abbrev Told : ℕ → ℕ → Type 0
   Told t p = (page_bit shape fuller d t p ≡ 1) ↔ ((page_bit shape words d t p ≡ 1) ⊎ ((t ≡ s) × (p ≡ q)))
@@ -82,7 +83,7 @@ module _ (shape : PageShape) (words : List ℕ) (d : Duties) (s q : ℕ) (fit : 
   )
 
   here : (p : ℕ) → p / 64 ≡ q / 64 → Told s p
-  here p e = let new = page_bit_live shape fuller d s p fit near live in let old = page_bit_live shape words d s p fit near live ∙ ap (λ (i : ℕ). get_or words (bit_word shape s i) 0 / 2 ^ (p % 64) % 2) e in let h = here_word p e in
+  here p e = let new = page_bit_live shape fuller d s p fit near live in let old = page_bit_live shape words d s p fit near live ∙ ap (λ (i : ℕ). get_or words (bit_place shape s i) 0 / 2 ^ (p % 64) % 2) e in let h = here_word p e in
       let x : ℕ = word / 2 ^ (p % 64) % 2 in let y : ℕ = 2 ^ (q % 64) / 2 ^ (p % 64) % 2 in let a : x < 2 = bit_at-lt word (p % 64) in let b : y < 2 = bit_at-lt (2 ^ (q % 64)) (p % 64) in
       let new' : page_bit shape fuller d s p ≡ max x y = new ∙ h in let old' : page_bit shape words d s p ≡ x = old in (
         (λ one. dite (ℕ_discrete (p % 64) (q % 64)) (λ same. inr (refl, (let g : p ≡ q = omega arith in g)))

@@ -1,18 +1,18 @@
 -- What follows for the machine from what holds of its data.
 use Rattle.std.proofs.Common.{◌≡◌, ℕ, ◌<◌, ◌≤◌, List, [], ◌++◌, length, map, get_or, sym, ap, ◌∙◌, subst, ⊎_elim, arith}
-use Rattle.std.specs.Prelude.{Vec, Option, position}
+use Rattle.std.specs.Prelude.{Vec, Option, option_map, position}
 use Rattle.std.specs.declared.alloc.Global.{Global}
 use Rattle.std.proofs.lemmas.Bool.{cases_lt}
 use Rattle.std.proofs.lemmas.List.{get_or-map, get_or_past, length-map}
 use Rattle.gate_core.specs.declared.core_data.CoreData.{CoreData}
 use Rattle.gate_core.specs.Marks.{width}
-use Rattle.gate_core.specs.Views.{Duties, View, slot_at, collected_of}
-use Rattle.gate_core.specs.Acts.{page_of, gate_word}
+use Rattle.gate_core.specs.Views.{Slot, no_slot, Duties, View, slot_at, collected_of}
+use Rattle.gate_core.specs.Acts.{page_of, gate_place}
 use Rattle.gate_core.specs.Invariant.{in_slot, total, seal_bit, IsCollected}
 use Rattle.gate_core.specs.Core.{view_at, items_at, IsLogged}
 use Rattle.gate_core.specs.Core as core
 use Rattle.gate_core.specs.Sound.{IsSound}
-use Rattle.gate_core.specs.PageWords.{stands_with, slot_with, live_from, page_words}
+use Rattle.gate_core.specs.PageWords.{stands_with, slot_with, phase_with, live_from, page_words}
 use Rattle.gate_core.specs.Kept.{notes_of, views_of, core_of, Holds}
 use Rattle.gate_core.proofs.Members.{item_at}
 use Rattle.gate_core.proofs.Gates.{gate_page, sealed_two}
@@ -41,10 +41,10 @@ module _ (m : CoreData) (h : Holds m) (xs : List (Vec ℕ Global)) (are : xs ≡
 
 module _ (m : CoreData) (h : Holds m) where
   -- the keeper's page of a slot stands in the slot's gate
-  pub gate_is : (s : ℕ) → s < 4 → page_of (get_or m.words.items (gate_word s) 0) ≡ (slot_at (core.duties_of (core_of m)) s).page
+  pub gate_is : (s : ℕ) → s < 4 → page_of (get_or m.words.items (gate_place s) 0) ≡ (slot_at (core.duties_of (core_of m)) s).page
   gate_is s near = let f = desk_fits m h in let d = desk_duties m in
       let few = crowd m.shape m.words.items (views_of m) d (own_entries m) f s in
-      gate_page (total (in_slot s) (views_of m)) (seal_bit (slot_at d s).phase) (slot_at d s).page (get_or m.words.items (gate_word s) 0) (let g : total (in_slot s) (views_of m) < 65536 = omega arith in g) (sealed_two (slot_at d s).phase) (f.gates s near)
+      gate_page (total (in_slot s) (views_of m)) (seal_bit (slot_at d s).phase) (slot_at d s).page (get_or m.words.items (gate_place s) 0) (let g : total (in_slot s) (views_of m) < 65536 = omega arith in g) (sealed_two (slot_at d s).phase) (f.gates s near)
       ∙ ap (λ (e : Duties). (slot_at e s).page) (sym (duties_is m h))
 
   pub slots_are : (core.duties_of (core_of m)).slots ≡ m.desk.slots
@@ -65,6 +65,13 @@ module _ (m : CoreData) (h : Holds m) where
   page_words_are page taken live slot t s l =
       ap (λ (ws : List ℕ). taken ++ ws) (l ∙ ap (λ (o : Option ℕ). live_from (core_of m) o (length taken)) (s ∙ ap (position (stands_with page)) (sym slots_are)))
       ∙ ap (λ (ws : List ℕ). ws ++ live_from (core_of m) (slot_with (core_of m) page) (length ws)) t
+
+-- the phase of the slot in which a page stands
+pub phase_is : (m : CoreData) → Holds m → (page : ℕ) (slot : Option ℕ) → slot ≡ position (stands_with page) m.desk.slots → option_map (λ s. (get_or m.desk.slots s no_slot).phase) slot ≡ phase_with (core_of m) page
+phase_is m h page slot e =
+    let slots = slots_are m h in
+    ap (λ (o : Option ℕ). option_map (λ s. (get_or m.desk.slots s no_slot).phase) o) (e ∙ ap (position (stands_with page)) (sym slots))
+    ∙ ap (λ (xs : List Slot). option_map (λ s. (get_or xs s no_slot).phase) (slot_with (core_of m) page)) (sym slots)
 
 -- an actor that has a view has a seat
 pub seated : (m : CoreData) (place : ℕ) → place < length (views_of m) → place < length m.seats.items

@@ -9,7 +9,8 @@ use Rattle.gate_core.specs.declared.states.PassState.{PassState}
 use Rattle.gate_core.specs.declared.states.PassState.TheVariants.{Idle, Looked, Inside, Visiting}
 use Rattle.gate_core.specs.Views.{Spent, Pass, Keeper, Duties, View, blank, slot_at}
 use Rattle.gate_core.specs.Acts.{dealer_view, dealt_view, gathered_view}
-use Rattle.gate_core.specs.Invariant.{total, counts_in, in_slot, pass_role, keeper_role, is_pass, is_keeper, StateFits, HasMark, HasSet, Recorded, SlotsFit, ActorFits, PlaneFits, PlaneInvariant}
+use Rattle.gate_core.specs.Invariant.{total, counts_in, in_slot, pass_role, keeper_role, is_pass, is_keeper, StateFits, HasSet, Recorded, SlotsFit, ActorFits, PlaneFits, PlaneInvariant}
+use Rattle.hash_family.specs.Entries.{IsMarked}
 use Rattle.gate_core.proofs.Lists.{at_set, set_here, set_else, at_longer, at_snoc, same_at, total-set, term_le}
 
 total-append : (g : View → ℕ) (l m : List View) → total g (l ++ m) ≡ total g l + total g m
@@ -27,8 +28,8 @@ module _ {A : Type 0} where
   at_joined (x ∷ xs) m i zero a is e = absurd (omega arith)
   at_joined (x ∷ xs) m i (suc j) a is e = at_joined xs m i j a (omega arith) e
 
--- the same slots and pages
-same_slots : (shape : PageShape) (d : Duties) (a b : ℕ) → SlotsFit shape d → SlotsFit shape (record d { dealt = a; out = b })
+-- the slots and pages fit, however many passes were dealt and are out
+pub same_slots : (shape : PageShape) (d : Duties) (a b : ℕ) → SlotsFit shape d → SlotsFit shape (record d { dealt = a; out = b })
 same_slots shape d a b f = record {
   four = f.four;
   pointed_slot = f.pointed_slot;
@@ -103,7 +104,7 @@ module _ (shape : PageShape) (words : List ℕ) (views : List View) (id : ℕ) (
       λ (j, u, at, p). ⊎_elim (λ (o, at', how). (j, o, at', ⊎_elim (λ e. subst P e p) (λ t. subst P (sym t.0) (back (subst P t.1 p))) how)) (λ t. absurd (none (subst P t.1 p))) (origin j u at),
     )
 
-    no_mark : (page p : ℕ) → HasMark shape dealt page p → ⊥
+    no_mark : (page p : ℕ) → IsMarked shape dealt.entries page p → ⊥
     no_mark page p (i, e, at, of, among) = some-ne-none e (sym at)
 
     seat_new : ActorFits shape dealer.duties dealt
@@ -149,9 +150,9 @@ module _ (shape : PageShape) (words : List ℕ) (views : List View) (id : ℕ) (
         slots = same_slots shape d (d.dealt + 1) (d.out + 1) f.slots;
         actors = λ j u at. ⊎_elim (λ (o, at', how). ⊎_elim (λ e. subst (ActorFits shape dealer.duties) (sym e) (seat_same (d.dealt + 1) (d.out + 1) (omega arith) o (f.actors j o at'))) (λ t. subst (ActorFits shape dealer.duties) (sym t.1) seat_left) how)
             (λ t. subst (ActorFits shape dealer.duties) (sym t.1) seat_new) (origin j u at);
-        slot_words = λ s near stands p small. let old = f.slot_words s near stands p small in let m = both_ways (λ u. HasMark shape u (slot_at d s).page p ⊎ HasSet shape u.state s p) (λ x. x) (λ x. x) (λ x. ⊎_elim (no_mark (slot_at d s).page p) (λ h. h) x) in
+        slot_words = λ s near stands p small. let old = f.slot_words s near stands p small in let m = both_ways (λ u. IsMarked shape u.entries (slot_at d s).page p ⊎ HasSet shape u.state s p) (λ x. x) (λ x. x) (λ x. ⊎_elim (no_mark (slot_at d s).page p) (λ h. h) x) in
             ((λ b. m.0 (old.0 b)), (λ y. old.1 (m.1 y)));
-        collected_words = λ page below whole p small. let old = f.collected_words page below whole p small in let m = both_ways (λ u. HasMark shape u page p) (λ x. x) (λ x. x) (no_mark page p) in ((λ b. m.0 (old.0 b)), (λ y. old.1 (m.1 y)));
+        collected_words = λ page below whole p small. let old = f.collected_words page below whole p small in let m = both_ways (λ u. IsMarked shape u.entries page p) (λ x. x) (λ x. x) (no_mark page p) in ((λ b. m.0 (old.0 b)), (λ y. old.1 (m.1 y)));
         drained_words = f.drained_words;
         free_words = f.free_words;
         probes = λ i x at. let k = f.probes i x at in record { page_below = k.page_below; at_below = k.at_below; known = k.known; seen = k.seen; unseen = k.unseen };
@@ -195,18 +196,18 @@ module _ (shape : PageShape) (words : List ℕ) (views : List View) (id : ℕ) (
     both_there : get_elem? gathered_views id ≡ some both
     both_there = set_else one other id blank (λ e. apart (sym e)) ∙ set_here views id both v there
 
-    of_p : (page q : ℕ) → HasMark shape p page q → HasMark shape both page q
+    of_p : (page q : ℕ) → IsMarked shape p.entries page q → IsMarked shape both.entries page q
     of_p page q (i, e, at, of, among) = (length v.entries + i, e, at_joined v.entries p.entries i (length v.entries + i) e refl at, of, among)
 
-    of_v : (page q : ℕ) → HasMark shape v page q → HasMark shape both page q
+    of_v : (page q : ℕ) → IsMarked shape v.entries page q → IsMarked shape both.entries page q
     of_v page q (i, e, at, of, among) = (i, e, at_longer v.entries p.entries i e at, of, among)
 
-    of_both : (page q : ℕ) → HasMark shape both page q → HasMark shape v page q ⊎ HasMark shape p page q
+    of_both : (page q : ℕ) → IsMarked shape both.entries page q → IsMarked shape v.entries page q ⊎ IsMarked shape p.entries page q
     of_both page q (i, e, at, of, among) = ⊎_elim (λ old. inl (i, e, old, of, among)) (λ (n, is, new). inr (n, e, new, of, among)) (at_append v.entries p.entries i e at)
 
     module _ (R : PassState → Type 0) (none : R Idle → ⊥) (page q : ℕ) where
       abbrev Shows : View → Type 0
-      Shows u = HasMark shape u page q ⊎ R u.state
+      Shows u = IsMarked shape u.entries page q ⊎ R u.state
 
       merged : ((j : ℕ) × (u : View) × (get_elem? views j ≡ some u) × Shows u) ↔ ((j : ℕ) × (u : View) × (get_elem? gathered_views j ≡ some u) × Shows u)
       merged = (

@@ -6,7 +6,7 @@ use lib.ListN.{get_elem?}
 use Rattle.std.specs.Prelude.{slice_get, Some, Vec}
 use Rattle.std.specs.declared.alloc.Global.{Global}
 use Rattle.hash_family.specs.Positions.{family_of}
-use Rattle.gate_core.specs.declared.states.Entry.{Entry}
+use Rattle.spie_base.specs.declared.types.Entry.{Entry}
 use Rattle.gate_core.specs.declared.states.PassState.{PassState}
 use Rattle.gate_core.specs.declared.steps.Act.{Act}
 use Rattle.gate_core.specs.declared.steps.StepAnswer.{StepAnswer}
@@ -19,8 +19,7 @@ use Rattle.gate_core.specs.Acts.{with_duties, word_of, word_after, view_after, E
 use Rattle.gate_core.specs.Core.{items_at, answer_of, finished}
 use Rattle.gate_core.specs.Invariant.{PlaneFits}
 use Rattle.gate_core.specs.Kept.{Notes, notes_of, duties_of, view_of, views_from, views_of, HasDeskRoom, Holds, DoesAct}
-use Rattle.gate_core.proofs.Duty.{the_keeper}
-use Rattle.gate_core.proofs.Seals.{own}
+use Rattle.gate_core.proofs.Duty.{keeper_fits}
 use Rattle.gate_core.proofs.KeptViews.{views-turn}
 use Rattle.gate_core.proofs.KeptActs.{viewed, HoldsBeside, Changes, log_less, does_act}
 
@@ -43,7 +42,7 @@ own_entries m = items_at 0 m.entries.places.items m.entries.items.items
 
 pub desk_fits : (m : CoreData) → Holds m → PlaneFits m.shape m.words.items (views_of m) (desk_duties m) (own_entries m)
 desk_fits m h = let s = has_seat m.seats.items h.some_seat in let v : View = view_of (notes_of m) 0 s.seat.state in
-    own m.shape m.words.items (views_of m) h.plane v (the_keeper m.shape m.words.items (views_of m) h.plane 0 v (viewed m 0 s.seat s.there) refl)
+    keeper_fits m.shape m.words.items (views_of m) h.plane 0 v (viewed m 0 s.seat s.there) refl
 
 -- ---- the views, where the desk changes
 

@@ -16,9 +16,10 @@ use Rattle.gate_core.specs.declared.steps.StepAnswer.TheVariants as answer
 use Rattle.gate_core.specs.declared.states.ActorState.TheVariants as actor_state
 use Rattle.gate_core.specs.declared.core_data.CoreData.{CoreData}
 use Rattle.gate_core.specs.declared.core_data.Desk.{Desk}
-use Rattle.gate_core.specs.Marks.{IsShape, width}
+use Rattle.gate_core.specs.Marks.{width}
+use Rattle.spie_base.specs.Shapes.{IsShape}
 use Rattle.gate_core.specs.Views.{Slot, View}
-use Rattle.gate_core.specs.Acts.{bit_word, numbered, next_word, in_phase, with_duties, IsQuiet}
+use Rattle.gate_core.specs.Acts.{bit_place, numbered, next_word, in_phase, with_duties, IsQuiet}
 use Rattle.gate_core.specs.Invariant.{HasPage, taken}
 use Rattle.gate_core.specs.Kept.{notes_of, duties_of, view_of, paid, HasDeskRoom, Holds, DoesAct}
 use Rattle.gate_core.specs.Desks.{slot_in, phased, after_word, AddsWord}
@@ -49,7 +50,7 @@ module _ (m : CoreData) (h : Holds m) (s next : ℕ) (near : s < 4) (quiet : (sl
   pub next_fits : next + 1 < 4294967296
   next_fits = let a = next_within in let b = narrow m.shape (desk_fits m h).in_range in omega arith
 
-  pub word_within : bit_word m.shape s next < length m.words.items
+  pub word_within : bit_place m.shape s next < length m.words.items
   word_within = let a = next_within in let b = (desk_fits m h).long in let e : s ≤ 3 = omega arith in let q = mul-le-mul_left (width m.shape) e in omega arith
 
   stands : HasPage (slot_in m.desk s).phase
@@ -122,7 +123,7 @@ module _ (m m' : CoreData) (h : Holds m) (some_room : 1 ≤ m.room) (s : ℕ) (n
   within : s < length m.desk.slots
   within = let a = four_slots m h in omega arith
 
-  drained_at : (slot_in m.desk s).phase ≡ Quiet k → DeskBecomes m m' (to k) → m'.words.items ≡ set m.words.items (bit_word m.shape s k) 0 → AddsWord m.desk.collected m'.desk.collected g (get_or m.words.items (bit_word m.shape s k) 0)
+  drained_at : (slot_in m.desk s).phase ≡ Quiet k → DeskBecomes m m' (to k) → m'.words.items ≡ set m.words.items (bit_place m.shape s k) 0 → AddsWord m.desk.collected m'.desk.collected g (get_or m.words.items (bit_place m.shape s k) 0)
       → reply ≡ (if k + 1 == width m.shape then answer.Collected (numbered g) else answer.Drained) → DoesAct m m' 0 (Drain s) reply
   drained_at quiet others words added answers =
       let e = sym (desk_is m m' (to k) others) in
@@ -131,18 +132,18 @@ module _ (m m' : CoreData) (h : Holds m) (some_room : 1 ≤ m.room) (s : ℕ) (n
         words = words;
         others = desk_framed m m' (to k) others;
         duties = ap (λ (d : Desk). with_duties v (duties_of d p)) (sym e)
-            ∙ ap (λ (l : List (List ℕ)). with_duties v (in_phase (record (duties_of m.desk p) { collected = l }) s ph)) (lists_longer m.desk.collected m'.desk.collected g (get_or m.words.items (bit_word m.shape s k) 0) added);
+            ∙ ap (λ (l : List (List ℕ)). with_duties v (in_phase (record (duties_of m.desk p) { collected = l }) s ph)) (lists_longer m.desk.collected m'.desk.collected g (get_or m.words.items (bit_place m.shape s k) 0) added);
         none = refl;
         room = subst (λ (d : Desk). HasDeskRoom (width m.shape) d (m.room - 1)) e
-            (room_longer (width m.shape) (phased m.desk s ph) m'.desk.collected (m.room - 1) g (get_or m.words.items (bit_word m.shape s k) 0) (room_phased (width m.shape) m.desk m.room s ph h.desk within some_room pays) added);
+            (room_longer (width m.shape) (phased m.desk s ph) m'.desk.collected (m.room - 1) g (get_or m.words.items (bit_place m.shape s k) 0) (room_phased (width m.shape) m.desk m.room s ph h.desk within some_room pays) added);
         families = subst (HasFamilies m.shape) e (families_phased m.shape m.desk s ph h.families within);
       }) answers
 
-  pub drain_done : (next : ℕ) → (slot_in m.desk s).phase ≡ Quiet next → DeskBecomes m m' (with_lists (phased m.desk s (after_word next (width m.shape))) m'.desk.collected) → m'.words.items ≡ set m.words.items (bit_word m.shape s next) 0
-      → AddsWord m.desk.collected m'.desk.collected (slot_in m.desk s).page (get_or m.words.items (bit_word m.shape s next) 0)
+  pub drain_done : (next : ℕ) → (slot_in m.desk s).phase ≡ Quiet next → DeskBecomes m m' (with_lists (phased m.desk s (after_word next (width m.shape))) m'.desk.collected) → m'.words.items ≡ set m.words.items (bit_place m.shape s next) 0
+      → AddsWord m.desk.collected m'.desk.collected (slot_in m.desk s).page (get_or m.words.items (bit_place m.shape s next) 0)
       → reply ≡ (if next + 1 == width m.shape then answer.Collected (numbered (slot_in m.desk s).page) else answer.Drained) → DoesAct m m' 0 (Drain s) reply
   drain_done next quiet =
-      let P : ℕ → Type 0 = λ j. (slot_in m.desk s).phase ≡ Quiet j → DeskBecomes m m' (to j) → m'.words.items ≡ set m.words.items (bit_word m.shape s j) 0 → AddsWord m.desk.collected m'.desk.collected g (get_or m.words.items (bit_word m.shape s j) 0)
+      let P : ℕ → Type 0 = λ j. (slot_in m.desk s).phase ≡ Quiet j → DeskBecomes m m' (to j) → m'.words.items ≡ set m.words.items (bit_place m.shape s j) 0 → AddsWord m.desk.collected m'.desk.collected g (get_or m.words.items (bit_place m.shape s j) 0)
       → reply ≡ (if j + 1 == width m.shape then answer.Collected (numbered g) else answer.Drained) → DoesAct m m' 0 (Drain s) reply in
       let e : k ≡ next = ap next_word quiet in
       subst P e drained_at quiet

@@ -19,7 +19,7 @@ use Rattle.gate_core.specs.declared.core_data.CoreData.{CoreData}
 use Rattle.gate_core.specs.declared.core_data.Desk.{Desk}
 use Rattle.gate_core.specs.Marks.{width}
 use Rattle.gate_core.specs.Views.{Slot, View, slot_at}
-use Rattle.gate_core.specs.Acts.{numbered, gate_word, with_slot, with_duties, open_among}
+use Rattle.gate_core.specs.Acts.{numbered, gate_place, with_slot, with_duties, open_among}
 use Rattle.gate_core.specs.Kept.{notes_of, duties_of, view_of, paid, HasDeskRoom, Holds, DoesAct}
 use Rattle.gate_core.specs.Desks.{slot_in, AddsList, OpensPage}
 use Rattle.gate_core.proofs.Lists.{at_longer, at_last, at_snoc}
@@ -87,7 +87,7 @@ module _ (m m' : CoreData) (h : Holds m) (some_room : 1 ≤ m.room) (s : ℕ) (n
   v = view_of (notes_of m) 0 (first_of m h).seat.state
 
   abbrev gate : ℕ
-  gate = get_or m.words.items (gate_word s) 0
+  gate = get_or m.words.items (gate_place s) 0
 
   abbrev family : Drawn
   family = family_of m.shape m.desk.next
@@ -99,7 +99,7 @@ module _ (m m' : CoreData) (h : Holds m) (some_room : 1 ≤ m.room) (s : ℕ) (n
   within = let a = four_slots m h in omega arith
 
   pub open_done : (slot_in m.desk s).phase ≡ Free → open_among m.desk.slots 0 ≡ 4 → m.desk.next + 1 < 4294967296
-      → m'.words.items ≡ set m.words.items (gate_word s) ((gate + (m.desk.next * 4294967296 + 2 ^ 64 - (slot_in m.desk s).page * 4294967296 - 65536) % 2 ^ 64) % 2 ^ 64)
+      → m'.words.items ≡ set m.words.items (gate_place s) ((gate + (m.desk.next * 4294967296 + 2 ^ 64 - (slot_in m.desk s).page * 4294967296 - 65536) % 2 ^ 64) % 2 ^ 64)
       → DeskBecomes m m' m'.desk → OpensPage m.desk m'.desk s (family_of m.shape m.desk.next) → reply ≡ answer.Opened (numbered m.desk.next) → DoesAct m m' 0 (act.Open s) reply
   open_done free none fits words others opened answers =
       let e : to ≡ m'.desk = sym opened.others in

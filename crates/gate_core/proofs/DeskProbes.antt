@@ -1,6 +1,7 @@
 -- `probe`.
-use Rattle.std.proofs.Common.{◌≡◌, ℕ, ◌-◌, ◌/◌, ◌%◌, ◌^◌, ◌<◌, ◌≤◌, ◌==◌, List, [], ◌∷◌, ◌++◌, length, map, get_or, sym, refl, ap, ◌∙◌, subst, arith, length-append}
+use Rattle.std.proofs.Common.{◌≡◌, ℕ, ◌-◌, ◌/◌, ◌%◌, ◌<◌, ◌≤◌, ◌==◌, List, [], ◌∷◌, ◌++◌, length, map, get_or, sym, refl, ap, ◌∙◌, subst, arith, length-append}
 use Rattle.std.specs.Prelude.{vec_capacity, Vec}
+use Rattle.std.specs.Int.{bit_at}
 use Rattle.std.specs.declared.alloc.Global.{Global}
 use Rattle.gate_core.specs.declared.steps.Act.TheVariants.{Probe}
 use Rattle.gate_core.specs.declared.steps.StepAnswer.{StepAnswer}
@@ -10,7 +11,7 @@ use Rattle.gate_core.specs.declared.core_data.CoreData.{CoreData}
 use Rattle.gate_core.specs.declared.core_data.Desk.{Desk}
 use Rattle.gate_core.specs.Marks.{width, size}
 use Rattle.gate_core.specs.Views.{Slot, Probed, View}
-use Rattle.gate_core.specs.Acts.{bit_word, with_duties, CanProbe}
+use Rattle.gate_core.specs.Acts.{bit_place, with_duties, CanProbe}
 use Rattle.gate_core.specs.Kept.{notes_of, duties_of, view_of, HasDeskRoom, Holds, DoesAct}
 use Rattle.gate_core.specs.Desks.{slot_in}
 use Rattle.gate_core.proofs.KeptActs.{does_nothing}
@@ -19,7 +20,7 @@ use Rattle.gate_core.proofs.DeskRoom.{HasFamilies}
 
 -- what a probe notes, with so many entries known
 abbrev probe_with : CoreData → (slot at known : ℕ) → Probed
-probe_with m s at known = record { page = (slot_in m.desk s).page; at = at; bit = get_or m.words.items (bit_word m.shape s (at / 64)) 0 / 2 ^ (at % 64) % 2; known = known }
+probe_with m s at known = record { page = (slot_in m.desk s).page; at = at; bit = bit_at (get_or m.words.items (bit_place m.shape s (at / 64)) 0) (at % 64) == 1; known = known }
 
 abbrev with_probes : Desk → Vec Probed Global → Desk
 with_probes desk probes = record desk { probes = probes }
@@ -45,12 +46,12 @@ module _ (m m' : CoreData) (h : Holds m) (some_room : 1 ≤ m.room) (s at : ℕ)
   to = with_probes m.desk m'.desk.probes
 
   pub probe_done : m' ≡ record m { desk = with_probes m.desk m'.desk.probes; room = m.room - 1 } → m'.desk.probes.items ≡ m.desk.probes.items ++ probe_with m s at m.entries.own ∷ [] → vec_capacity m'.desk.probes ≡ vec_capacity m.desk.probes
-      → reply ≡ answer.Bit (get_or m.words.items (bit_word m.shape s (at / 64)) 0 / 2 ^ (at % 64) % 2 == 1) → DoesAct m m' 0 (Probe s at) reply
+      → reply ≡ answer.Bit (bit_at (get_or m.words.items (bit_place m.shape s (at / 64)) 0) (at % 64) == 1) → DoesAct m m' 0 (Probe s at) reply
   probe_done is items same answers =
       let others = desk_only m m' to is in
       let e = sym (desk_is m m' to others) in
       desk_act m m' (first_of m h).seat (Probe s at) (first_of m h).there reply h (refl, near, within, stands) (record {
-        words = word_read m m' to (bit_word m.shape s (at / 64)) is;
+        words = word_read m m' to (bit_place m.shape s (at / 64)) is;
         others = desk_framed m m' to others;
         duties = ap (λ (d : Desk). with_duties v (duties_of d p)) (sym e)
             ∙ (ap (λ (l : List Probed). with_duties v (record (duties_of m.desk p) { probes = l })) items

@@ -9,7 +9,7 @@ use Rattle.gate_core.specs.declared.core_data.CoreData.{CoreData}
 use Rattle.gate_core.specs.declared.core_data.Desk.{Desk}
 use Rattle.gate_core.specs.Marks.{width}
 use Rattle.gate_core.specs.Views.{Slot, View}
-use Rattle.gate_core.specs.Acts.{page_of, numbered, gate_word, open_among}
+use Rattle.gate_core.specs.Acts.{page_of, numbered, gate_place, open_among}
 use Rattle.gate_core.specs.Kept.{notes_of, duties_of, view_of, HasDeskRoom, Holds, DoesAct}
 use Rattle.gate_core.specs.Desks.{phased}
 use Rattle.gate_core.proofs.KeptActs.{desk_less, does_nothing}
@@ -33,9 +33,9 @@ module _ (m m' : CoreData) (h : Holds m) (some_room : 1 ≤ m.room) (reply : Ste
   k = open_among m.desk.slots 0
 
   abbrev gate : ℕ
-  gate = get_or m.words.items (gate_word k) 0
+  gate = get_or m.words.items (gate_place k) 0
 
-  sealed_at : k < 4 → m'.words.items ≡ set m.words.items (gate_word k) (bit_or gate 65536) → DeskBecomes m m' (phased m.desk k Sealed) → reply ≡ answer.Sealed (numbered (page_of gate)) → DoesAct m m' 0 Seal reply
+  sealed_at : k < 4 → m'.words.items ≡ set m.words.items (gate_place k) (bit_or gate 65536) → DeskBecomes m m' (phased m.desk k Sealed) → reply ≡ answer.Sealed (numbered (page_of gate)) → DoesAct m m' 0 Seal reply
   sealed_at near words others answers =
       let within : k < length m.desk.slots = let a = four_slots m h in omega arith in
       let e = sym (desk_is m m' (phased m.desk k Sealed) others) in
@@ -48,10 +48,10 @@ module _ (m m' : CoreData) (h : Holds m) (some_room : 1 ≤ m.room) (reply : Ste
         families = subst (HasFamilies m.shape) e (families_phased m.shape m.desk k Sealed h.families within);
       }) answers
 
-  pub seal_done : (slot : ℕ) → slot ≡ k → slot < 4 → m'.words.items ≡ set m.words.items (gate_word slot) (bit_or (get_or m.words.items (gate_word slot) 0) 65536) → DeskBecomes m m' (phased m.desk slot Sealed)
-      → reply ≡ answer.Sealed (numbered (page_of (get_or m.words.items (gate_word slot) 0))) → DoesAct m m' 0 Seal reply
-  seal_done slot e = let P : ℕ → Type 0 = λ i. i < 4 → m'.words.items ≡ set m.words.items (gate_word i) (bit_or (get_or m.words.items (gate_word i) 0) 65536) → DeskBecomes m m' (phased m.desk i Sealed)
-      → reply ≡ answer.Sealed (numbered (page_of (get_or m.words.items (gate_word i) 0))) → DoesAct m m' 0 Seal reply in subst P (sym e) sealed_at
+  pub seal_done : (slot : ℕ) → slot ≡ k → slot < 4 → m'.words.items ≡ set m.words.items (gate_place slot) (bit_or (get_or m.words.items (gate_place slot) 0) 65536) → DeskBecomes m m' (phased m.desk slot Sealed)
+      → reply ≡ answer.Sealed (numbered (page_of (get_or m.words.items (gate_place slot) 0))) → DoesAct m m' 0 Seal reply
+  seal_done slot e = let P : ℕ → Type 0 = λ i. i < 4 → m'.words.items ≡ set m.words.items (gate_place i) (bit_or (get_or m.words.items (gate_place i) 0) 65536) → DeskBecomes m m' (phased m.desk i Sealed)
+      → reply ≡ answer.Sealed (numbered (page_of (get_or m.words.items (gate_place i) 0))) → DoesAct m m' 0 Seal reply in subst P (sym e) sealed_at
 
   pointed_at : k < 4 → m'.words.items ≡ set m.words.items 0 k → DeskBecomes m m' (record m.desk { pointed = k }) → reply ≡ answer.Pointed k → DoesAct m m' 0 Point reply
   pointed_at near words others answers =

@@ -13,7 +13,7 @@ use Rattle.gate_core.specs.declared.core_data.Desk.{Desk}
 use Rattle.gate_core.specs.declared.core_data.Seat.{Seat}
 use Rattle.gate_core.specs.Marks.{width}
 use Rattle.gate_core.specs.Views.{Slot, View}
-use Rattle.gate_core.specs.Acts.{inside_of, gate_word, in_phase, with_duties, busy, after_settle, IsSealed}
+use Rattle.gate_core.specs.Acts.{inside_of, gate_place, in_phase, with_duties, busy, after_settle, IsSealed}
 use Rattle.gate_core.specs.Kept.{notes_of, duties_of, view_of, HasDeskRoom, Holds, DoesAct}
 use Rattle.gate_core.specs.Desks.{slot_in, phased, settled, counted_out}
 use Rattle.gate_core.proofs.KeptActs.{desk_less, does_nothing}
@@ -46,7 +46,7 @@ settled_duties desk p s gate out false = refl
 
 module _ (m m' : CoreData) (h : Holds m) (some_room : 1 ≤ m.room) (s : ℕ) (near : s < 4) (shut : (slot_in m.desk s).phase ≡ Sealed) (reply : StepAnswer) where
   abbrev gate : ℕ
-  gate = get_or m.words.items (gate_word s) 0
+  gate = get_or m.words.items (gate_place s) 0
 
   abbrev out : ℕ
   out = counted_out m.seats.items
@@ -83,7 +83,7 @@ module _ (m m' : CoreData) (h : Holds m) (some_room : 1 ≤ m.room) (s : ℕ) (n
       let others = desk_only m m' to is in
       let e = sym (desk_is m m' to others) in
       desk_act m m' (first_of m h).seat (Settle s) (first_of m h).there reply h (refl, near, subst IsSealed (sym shut) tt) (record {
-        words = word_read m m' to (gate_word s) is;
+        words = word_read m m' to (gate_place s) is;
         others = desk_framed m m' to others;
         duties = ap (λ (d : Desk). with_duties v (duties_of d p)) (sym e) ∙ to_duties;
         none = refl;

@@ -12,7 +12,7 @@ use Rattle.gate_core.specs.declared.states.SlotPhase.TheVariants.{Free, Open, Se
 use Rattle.bloom_page.specs.Bits.{bit_in}
 use Rattle.gate_core.specs.Marks.{width, size}
 use Rattle.gate_core.specs.Views.{Keeper, Duties, View, slot_at, collected_of}
-use Rattle.gate_core.specs.Acts.{gate_word, bit_word, in_phase, with_duties, next_word, after_drain, IsQuiet}
+use Rattle.gate_core.specs.Acts.{gate_place, bit_place, in_phase, with_duties, next_word, after_drain, IsQuiet}
 use Rattle.gate_core.specs.Invariant.{total, in_slot, seal_bit, HasPage, IsLive, taken, live_bit, page_bit, HasSet, Marked, Recorded, IsCollected, StateFits, SlotsFit, ActorFits, PlaneFits, PlaneInvariant}
 use Rattle.gate_core.proofs.Gates.{tested}
 use Rattle.gate_core.proofs.Frame.{not_both}
@@ -67,7 +67,7 @@ module _ (shape : PageShape) (words : List ℕ) (views : List View) (id : ℕ) (
   g = (slot_at d s).page
 
   abbrev at : ℕ
-  at = bit_word shape s j
+  at = bit_place shape s j
 
   abbrev x : ℕ
   x = get_or words at 0
@@ -106,8 +106,8 @@ module _ (shape : PageShape) (words : List ℕ) (views : List View) (id : ℕ) (
   one_more_piece = ap length pieces_here ∙ (let a = length-append (collected_of d g) (x ∷ []) in let b = had in omega arith)
 
   -- words that stay
-  still : (t i : ℕ) → i < w → (t ≢ s) ⊎ (i ≢ j) → get_or words' (bit_word shape t i) 0 ≡ get_or words (bit_word shape t i) 0
-  still t i lt ne = get_or-set_other words at (bit_word shape t i) 0 0
+  still : (t i : ℕ) → i < w → (t ≢ s) ⊎ (i ≢ j) → get_or words' (bit_place shape t i) 0 ≡ get_or words (bit_place shape t i) 0
+  still t i lt ne = get_or-set_other words at (bit_place shape t i) 0 0
       (λ e. let same : t ≡ s = one_slot w t s i j lt j_short e in ⊎_elim (λ k. k same) (λ k. k (let e' : 5 + s * w + i ≡ 5 + s * w + j = subst (λ (z : ℕ). 5 + z * w + i ≡ 5 + s * w + j) same e in omega arith)) ne)
 
   early : (i : ℕ) → i < 5 → get_or words' i 0 ≡ get_or words i 0
@@ -125,7 +125,7 @@ module _ (shape : PageShape) (words : List ℕ) (views : List View) (id : ℕ) (
       (λ no. let within : q < j + 1 = lt_of_not-le no in
       ap (λ (b : Bool). cond b (bit_in (collected_of d1 g) p) (live_bit shape words' s p)) (lt-ltb q (length (collected_of d1 g)) (omega arith)) ∙ (ap (λ (l : List ℕ). bit_in l p) pieces_here
       ∙ dite (ℕ_discrete q j)
-      (λ e. ap (λ (y : ℕ). y / 2 ^ (p % 64) % 2) (get_last old x q (e ∙ sym was) ∙ ap (λ (i : ℕ). get_or words (bit_word shape s i) 0) (sym e)) ∙ sym (ap (λ (b : Bool). cond b (bit_in old p) (live_bit shape words s p)) (le-ltb q (length old) (omega arith))))
+      (λ e. ap (λ (y : ℕ). y / 2 ^ (p % 64) % 2) (get_last old x q (e ∙ sym was) ∙ ap (λ (i : ℕ). get_or words (bit_place shape s i) 0) (sym e)) ∙ sym (ap (λ (b : Bool). cond b (bit_in old p) (live_bit shape words s p)) (le-ltb q (length old) (omega arith))))
       (λ ne. ap (λ (y : ℕ). y / 2 ^ (p % 64) % 2) (get_front old x q (omega arith)) ∙ sym (ap (λ (b : Bool). cond b (bit_in old p) (live_bit shape words s p)) (lt-ltb q (length old) (omega arith))))))
 
   -- of another page too
@@ -234,7 +234,7 @@ module _ (shape : PageShape) (words : List ℕ) (views : List View) (id : ℕ) (
     drains_to = duty_kept shape words words' views id v d' there role f record {
       long = length-set words at 0 ∙ f.long;
       current_slot = early 0 (omega arith) ∙ f.current_slot;
-      gates = λ t small. let a = pages t in let b = as_sealed t in early (gate_word t) (omega arith) ∙ (f.gates t small ∙ (λ k. total (in_slot t) views + sym b k * 65536 + sym a k * 4294967296));
+      gates = λ t small. let a = pages t in let b = as_sealed t in early (gate_place t) (omega arith) ∙ (f.gates t small ∙ (λ k. total (in_slot t) views + sym b k * 65536 + sym a k * 4294967296));
       slots = slots';
       actors = λ i u here. actor' u (f.actors i u here);
       slot_words = λ t small h p lt. let same = bit_of t p small (stood t h) lt in let old = f.slot_words t small (stood t h) p lt in subst (λ (i : ℕ). (page_bit shape words' d' t p ≡ 1) ↔ Marked shape views i t p) (sym (pages t)) ((λ b. old.0 (sym same ∙ b)), (λ y. same ∙ old.1 y));
@@ -242,12 +242,12 @@ module _ (shape : PageShape) (words : List ℕ) (views : List View) (id : ℕ) (
           (λ e. let end : j + 1 ≡ w = sym one_more_piece ∙ (ap (λ (i : ℕ). length (collected_of d1 i)) (sym e) ∙ whole) in let bit = whole_bit end p lt in let old = f.slot_words s near stood_s p lt in let m = marked_recorded p in
           subst (λ (i : ℕ). (bit_in (collected_of d1 i) p ≡ 1) ↔ Recorded shape views i p) (sym e) ((λ b. m.0 (old.0 (sym bit ∙ b))), (λ y. bit ∙ old.1 (m.1 y))))
           (λ ne. let e = pieces_else page ne in let old = f.collected_words page below (ap length (sym e) ∙ whole) p lt in ((λ b. old.0 (ap (λ (l : List ℕ). bit_in l p) (sym e) ∙ b)), (λ y. ap (λ (l : List ℕ). bit_in l p) e ∙ old.1 y)));
-      drained_words = λ t small i. cases (λ q y. q < 4 → i < taken y → get_or words' (bit_word shape q i) 0 ≡ 0)
-          (λ _ lt. dite (ℕ_discrete i j) (λ e. ap (λ (q : ℕ). get_or words' (bit_word shape s q) 0) e ∙ cleared)
+      drained_words = λ t small i. cases (λ q y. q < 4 → i < taken y → get_or words' (bit_place shape q i) 0 ≡ 0)
+          (λ _ lt. dite (ℕ_discrete i j) (λ e. ap (λ (q : ℕ). get_or words' (bit_place shape s q) 0) e ∙ cleared)
           (λ ne. let a = o.at_most in let b = o.short in let c : taken (slot_at d s).phase ≡ j = ap taken is_quiet in still s i (omega arith) (inr ne) ∙ f.drained_words s near i (omega arith)))
           (λ q ne lt k. let a = f.slots.taken_short q lt in still q i (omega arith) (inl ne) ∙ f.drained_words q lt i k) t small;
-      free_words = λ t small. cases (λ q y. q < 4 → y ≡ Free → (i : ℕ) → i < w → get_or words' (bit_word shape q i) 0 ≡ 0)
-          (λ _ free i lt. dite (ℕ_discrete i j) (λ e. ap (λ (q : ℕ). get_or words' (bit_word shape s q) 0) e ∙ cleared)
+      free_words = λ t small. cases (λ q y. q < 4 → y ≡ Free → (i : ℕ) → i < w → get_or words' (bit_place shape q i) 0 ≡ 0)
+          (λ _ free i lt. dite (ℕ_discrete i j) (λ e. ap (λ (q : ℕ). get_or words' (bit_place shape s q) 0) e ∙ cleared)
           (λ ne. let end = o.ends free in let c : taken (slot_at d s).phase ≡ j = ap taken is_quiet in still s i lt (inr ne) ∙ f.drained_words s near i (omega arith)))
           (λ q ne lt free i k. still q i k (inl ne) ∙ f.free_words q lt free i k) t small;
       probes = λ i y here. let k = f.probes i y here in record {

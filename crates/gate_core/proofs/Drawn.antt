@@ -1,17 +1,18 @@
 -- What the plane invariant implies: the marks in words, the places of pages, visits and floors.
-use Rattle.std.proofs.Common.{◌≡◌, ◌⊎◌, ℕ, ◌<◌, ◌↔◌, true, List, [], ◌∷◌, get_or, sym, refl, ap, ◌∙◌, subst, inl, inr, ⊎_elim, arith}
+use Rattle.std.proofs.Common.{false, ◌≡◌, ◌⊎◌, ℕ, ◌<◌, ◌↔◌, true, List, [], ◌∷◌, get_or, sym, refl, ap, ◌∙◌, subst, inl, inr, ⊎_elim, arith}
 use mathlib.Core.Option.{some}
 use lib.ListN.{get_elem?}
 use Rattle.spie_base.specs.declared.PageShape.{PageShape}
-use Rattle.gate_core.specs.declared.states.Entry.{Entry}
+use Rattle.spie_base.specs.declared.types.Entry.{Entry}
 use Rattle.gate_core.specs.declared.states.PassState.{PassState}
 use Rattle.gate_core.specs.declared.states.PassState.TheVariants.{Idle, Looked, Inside, Visiting}
 use Rattle.gate_core.specs.declared.states.SlotPhase.{SlotPhase}
 use Rattle.gate_core.specs.declared.states.SlotPhase.TheVariants.{Free, Open, Sealed, Quiet}
 use Rattle.bloom_page.specs.Bits.{bit_in}
-use Rattle.gate_core.specs.Marks.{width, size, IsAmong}
+use Rattle.gate_core.specs.Marks.{width, size}
+use Rattle.hash_family.specs.Entries.{IsAmong}
 use Rattle.gate_core.specs.Views.{Visit, Probed, Duties, View, slot_at, collected_of}
-use Rattle.gate_core.specs.Acts.{page_of, inside_of, gate_word, bit_word, IsQuiet}
+use Rattle.gate_core.specs.Acts.{page_of, inside_of, gate_place, bit_place, IsQuiet}
 use Rattle.gate_core.specs.Invariant.{in_slot, HasPage, IsLive, IsInside, page_bit, HasSet, Recorded, Marked, IsCollected, StateFits, VisitFits, PlaneFits}
 use Rattle.gate_core.proofs.Frame.{not_both}
 use Rattle.gate_core.proofs.Inside.{gate_counts, nobody_counted}
@@ -64,7 +65,7 @@ module _ (shape : PageShape) (words : List ℕ) (views : List View) (d : Duties)
   )
 
   -- the words of a Free slot are 0
-  pub free_empty : (s : ℕ) → s < 4 → (slot_at d s).phase ≡ Free → (i : ℕ) → i < width shape → get_or words (bit_word shape s i) 0 ≡ 0
+  pub free_empty : (s : ℕ) → s < 4 → (slot_at d s).phase ≡ Free → (i : ℕ) → i < width shape → get_or words (bit_place shape s i) 0 ≡ 0
   free_empty = f.free_words
 
   -- ---- the places of pages
@@ -104,18 +105,18 @@ module _ (shape : PageShape) (words : List ℕ) (views : List View) (d : Duties)
   -- ---- settles
 
   -- where a gate counts nobody, nobody is Inside or Visiting the slot
-  pub gate_empty : (s : ℕ) → s < 4 → inside_of (get_or words (gate_word s) 0) ≡ 0 → (j : ℕ) (u : View) → get_elem? views j ≡ some u → in_slot s u ≡ 0
+  pub gate_empty : (s : ℕ) → s < 4 → inside_of (get_or words (gate_place s) 0) ≡ 0 → (j : ℕ) (u : View) → get_elem? views j ≡ some u → in_slot s u ≡ 0
   gate_empty s near none j u at = nobody_counted (in_slot s) views (sym (gate_counts shape words views d mine f s near) ∙ none) j u at
 
   -- ---- probes
 
   module _ (i : ℕ) (x : Probed) (at : get_elem? d.probes i ≡ some x) where
     -- what was read as set is a mark of an entry of the page, or of a record inside the slot where it stands
-    pub probe_set : x.bit ≡ 1 → Recorded shape views x.page x.at ⊎ ((s : ℕ) × (s < 4) × HasPage (slot_at d s).phase × ((slot_at d s).page ≡ x.page) × Marked shape views x.page s x.at)
+    pub probe_set : x.bit ≡ true → Recorded shape views x.page x.at ⊎ ((s : ℕ) × (s < 4) × HasPage (slot_at d s).phase × ((slot_at d s).page ≡ x.page) × Marked shape views x.page s x.at)
     probe_set one = let k = f.probes i x at in ⊎_elim (λ c. inl ((f.collected_words x.page k.page_below c.0 x.at k.at_below).0 c.1))
         (λ (s, near, stands, is, bit). inr (s, near, stands, is, subst (λ (g : ℕ). Marked shape views g s x.at) is ((f.slot_words s near stands x.at k.at_below).0 bit)))
         (k.seen one)
 
     -- what was read as not set is no mark of the entries that the keeper then had
-    pub probe_unset : x.bit ≡ 0 → (j : ℕ) (e : Entry) → j < x.known → get_elem? mine j ≡ some e → e.page.number ≡ x.page → ¬ IsAmong shape x.page e.sig shape.k x.at
+    pub probe_unset : x.bit ≡ false → (j : ℕ) (e : Entry) → j < x.known → get_elem? mine j ≡ some e → e.page.number ≡ x.page → ¬ IsAmong shape x.page e.sig shape.k x.at
     probe_unset = (f.probes i x at).unseen

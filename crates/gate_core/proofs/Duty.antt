@@ -11,8 +11,9 @@ use Rattle.gate_core.specs.declared.states.SlotPhase.TheVariants.{Free}
 use Rattle.bloom_page.specs.Bits.{bit_in}
 use Rattle.gate_core.specs.Marks.{width, size}
 use Rattle.gate_core.specs.Views.{Probed}
-use Rattle.gate_core.specs.Acts.{inside_of, gate_word, bit_word}
-use Rattle.gate_core.specs.Invariant.{total, in_slot, is_pass, seal_bit, HasPage, taken, page_bit, IsCollected, ProbeFits, SlotsFit, keeper_role, is_keeper, HasMark, HasSet, Recorded, Marked, ActorFits, PlaneFits, PlaneInvariant}
+use Rattle.gate_core.specs.Acts.{inside_of, gate_place, bit_place}
+use Rattle.gate_core.specs.Invariant.{total, in_slot, is_pass, seal_bit, HasPage, taken, page_bit, IsCollected, ProbeFits, SlotsFit, keeper_role, is_keeper, HasSet, Recorded, Marked, ActorFits, PlaneFits, PlaneInvariant}
+use Rattle.hash_family.specs.Entries.{IsMarked}
 use Rattle.gate_core.proofs.Lists.{at_set, set_here, same_at, some_set, some_unset, total-set, terms_le}
 
 -- whose role is the keeper's is the keeper
@@ -20,6 +21,11 @@ pub the_keeper : (shape : PageShape) (words : List ℕ) (views : List View) (r :
 the_keeper shape words views r id v there role = dite (ℕ_discrete r.place id)
     (λ e. same_at views id r.head v (subst (λ (k : ℕ). get_elem? views k ≡ some r.head) e r.there) there)
     (λ ne. let a = terms_le is_keeper views id r.place v r.head ne there r.there in let b : is_keeper v ≡ 1 = ap keeper_role role in let c : is_keeper r.head ≡ 1 = ap keeper_role r.keeps in let e = r.fits.one_keeper in absurd (omega arith))
+
+-- and the words and the views fit its duties and its entries
+pub keeper_fits : (shape : PageShape) (words : List ℕ) (views : List View) (r : PlaneInvariant shape words views) (id : ℕ) (v : View) → get_elem? views id ≡ some v → v.role ≡ Keeper → PlaneFits shape words views v.duties v.entries
+keeper_fits shape words views r id v there role =
+    subst (λ (u : View). PlaneFits shape words views u.duties u.entries) (the_keeper shape words views r id v there role) r.fits
 
 module _ (shape : PageShape) (views : List View) (id : ℕ) (v : View) (d' : Duties) (there : get_elem? views id ≡ some v) where
   abbrev w : View
@@ -29,11 +35,11 @@ module _ (shape : PageShape) (views : List View) (id : ℕ) (v : View) (d' : Dut
   total_same g e = let a = total-set g views id v w there in omega arith
 
   pub marked_same : (page s p : ℕ) → Marked shape views page s p ↔ Marked shape (set views id w) page s p
-  marked_same page s p = let P : View → Type 0 = λ u. HasMark shape u page p ⊎ HasSet shape u.state s p in
+  marked_same page s p = let P : View → Type 0 = λ u. IsMarked shape u.entries page p ⊎ HasSet shape u.state s p in
       (some_set P P views id v w there (λ u x. x) (λ x. x), λ m. ⊎_elim (λ x. x) (λ x. absurd x) (some_unset P P ⊥ views id v w there (λ u x. x) (λ x. inl x) m))
 
   pub recorded_same : (page p : ℕ) → Recorded shape views page p ↔ Recorded shape (set views id w) page p
-  recorded_same page p = let P : View → Type 0 = λ u. HasMark shape u page p in
+  recorded_same page p = let P : View → Type 0 = λ u. IsMarked shape u.entries page p in
       (some_set P P views id v w there (λ u x. x) (λ x. x), λ m. ⊎_elim (λ x. x) (λ x. absurd x) (some_unset P P ⊥ views id v w there (λ u x. x) (λ x. inl x) m))
 
   -- each actor fits the new duties, where it fits them by its state, entries and visits
@@ -53,13 +59,13 @@ module _ (shape : PageShape) (views : List View) (id : ℕ) (v : View) (d' : Dut
 pub record Serves (shape : PageShape) (words' : List ℕ) (views : List View) (v : View) (d' : Duties) : Type 0 where
   pub long : length words' ≡ 5 + 4 * width shape
   pub current_slot : get_or words' 0 0 ≡ d'.pointed
-  pub gates : (s : ℕ) → s < 4 → get_or words' (gate_word s) 0 ≡ total (in_slot s) views + seal_bit (slot_at d' s).phase * 65536 + (slot_at d' s).page * 4294967296
+  pub gates : (s : ℕ) → s < 4 → get_or words' (gate_place s) 0 ≡ total (in_slot s) views + seal_bit (slot_at d' s).phase * 65536 + (slot_at d' s).page * 4294967296
   pub slots : SlotsFit shape d'
   pub actors : (j : ℕ) (u : View) → get_elem? views j ≡ some u → ActorFits shape d' u
   pub slot_words : (s : ℕ) → s < 4 → HasPage (slot_at d' s).phase → (p : ℕ) → p < size shape → (page_bit shape words' d' s p ≡ 1) ↔ Marked shape views (slot_at d' s).page s p
   pub collected_words : (page : ℕ) → page < d'.next → IsCollected shape d' page → (p : ℕ) → p < size shape → (bit_in (collected_of d' page) p ≡ 1) ↔ Recorded shape views page p
-  pub drained_words : (s : ℕ) → s < 4 → (i : ℕ) → i < taken (slot_at d' s).phase → get_or words' (bit_word shape s i) 0 ≡ 0
-  pub free_words : (s : ℕ) → s < 4 → (slot_at d' s).phase ≡ Free → (i : ℕ) → i < width shape → get_or words' (bit_word shape s i) 0 ≡ 0
+  pub drained_words : (s : ℕ) → s < 4 → (i : ℕ) → i < taken (slot_at d' s).phase → get_or words' (bit_place shape s i) 0 ≡ 0
+  pub free_words : (s : ℕ) → s < 4 → (slot_at d' s).phase ≡ Free → (i : ℕ) → i < width shape → get_or words' (bit_place shape s i) 0 ≡ 0
   pub probes : (i : ℕ) (x : Probed) → get_elem? d'.probes i ≡ some x → ProbeFits shape words' d' v.entries x
   pub noted : inside_of d'.noted ≤ d'.noted_with
   pub out : d'.out ≡ v.duties.out

@@ -9,9 +9,9 @@ use Rattle.gate_core.specs.declared.steps.Act.TheVariants as act
 use Rattle.gate_core.specs.Views.{Spent, Keeper, View}
 use Rattle.gate_core.specs.Acts.{word_of, word_after, view_after, Enabled, Acts}
 use Rattle.gate_core.specs.Invariant.{PlaneFits, PlaneInvariant}
-use Rattle.gate_core.proofs.Duty.{the_keeper}
+use Rattle.gate_core.proofs.Duty.{keeper_fits}
 use Rattle.gate_core.proofs.Keeps.{looks, enters, sets, leaves}
-use Rattle.gate_core.proofs.Seals.{own, seals}
+use Rattle.gate_core.proofs.Seals.{seals}
 use Rattle.gate_core.proofs.Points.{points, probes}
 use Rattle.gate_core.proofs.Settles.{settles}
 use Rattle.gate_core.proofs.Drains.{drains}
@@ -19,7 +19,7 @@ use Rattle.gate_core.proofs.Opens.{opens}
 
 module _ (shape : PageShape) (words : List ℕ) (views : List View) (r : PlaneInvariant shape words views) (id : ℕ) (v : View) (there : get_elem? views id ≡ some v) where
   mine : v.role ≡ Keeper → PlaneFits shape words views v.duties v.entries
-  mine role = own shape words views r v (the_keeper shape words views r id v there role)
+  mine role = keeper_fits shape words views r id v there role
 
   pub keeps : ¬ (v.role ≡ Spent) → (a : Act) → Enabled shape a v
       → PlaneInvariant shape (set words (word_of shape a v) (word_after shape a v (get_or words (word_of shape a v) 0))) (set views id (view_after shape a v (get_or words (word_of shape a v) 0)))

@@ -1,9 +1,8 @@
 -- The machine at the start, and the plane invariant there.
-use Rattle.std.proofs.Common.{◌≡◌, ℕ, zero, suc, ◌+◌, ◌-◌, ◌*◌, ◌<◌, ◌≤◌, List, [], ◌∷◌, ◌++◌, length, map, get_or, replicate, sym, refl, ap, ◌∙◌, subst, ⊎_elim, arith}
+use Rattle.std.proofs.Common.{◌≡◌, ℕ, zero, suc, ◌+◌, ◌-◌, ◌<◌, ◌≤◌, List, [], ◌∷◌, ◌++◌, length, map, replicate, sym, refl, ap, ◌∙◌, subst, arith}
 use Rattle.std.specs.Prelude.{slice_get, Some, All}
 use Rattle.std.specs.List.{range_with_len}
-use Rattle.std.proofs.lemmas.Bool.{cases_lt}
-use Rattle.std.proofs.lemmas.List.{length-replicate, get_or-replicate, get_or_past}
+use Rattle.std.proofs.lemmas.List.{length-replicate}
 use Rattle.std.proofs.lemmas.List.FromFn.{map-range_with_len_more}
 use mathlib.Core.Option.{some, some-ne-none, some-injective}
 use lib.ListN.{get_elem?}
@@ -13,53 +12,25 @@ use Rattle.gate_core.specs.declared.states.PassState.TheVariants.{Idle}
 use Rattle.gate_core.specs.declared.core_data.CoreData.{CoreData}
 use Rattle.gate_core.specs.declared.core_data.Seat.{Seat}
 use Rattle.gate_core.specs.declared.initial.TheConstants.{IDLE}
-use Rattle.gate_core.specs.Marks.{IsShape, width}
+use Rattle.gate_core.specs.Marks.{width}
+use Rattle.spie_base.specs.Shapes.{IsShape}
 use Rattle.gate_core.specs.Views.{Duties, View, first_keeper, slot_at}
-use Rattle.gate_core.specs.Acts.{gate_word}
 use Rattle.gate_core.specs.Invariant.{PlaneInvariant, IsFresh}
 use Rattle.gate_core.specs.Kept.{Notes, notes_of, duties_of, view_of, views_from, views_of, core_of, HasMarks, HasLogRoom, HasDeskRoom}
 use Rattle.gate_core.specs.Sound.{IsSound}
 use Rattle.gate_core.specs.Start.{keeper_view, pass_view, first_views, first_words, start_of}
-use Rattle.gate_core.proofs.Duty.{the_keeper}
-use Rattle.gate_core.proofs.Seals.{own}
+use Rattle.gate_core.proofs.Duty.{keeper_fits}
+use Rattle.gate_core.proofs.FreshWords.{fresh}
 use Rattle.gate_core.proofs.Starts.{starts}
 use Rattle.gate_core.proofs.Deals.{splits}
 
 -- ---- the plane invariant
 
-no_bit : (n i : ℕ) → (let z : ℕ = 0 in get_or (replicate n z) i z ≡ z)
-no_bit n i = ⊎_elim (λ lt. get_or-replicate n i 0 0 lt) (λ le. get_or_past (replicate n 0) i 0 (let e = length-replicate {A = ℕ} n 0 in omega arith)) (cases_lt i n)
-
-rest : (shape : PageShape) (i : ℕ) → 5 ≤ i → get_or (first_words shape) i 0 ≡ 0
-rest shape zero h = absurd (omega arith)
-rest shape (suc zero) h = absurd (omega arith)
-rest shape (suc (suc zero)) h = absurd (omega arith)
-rest shape (suc (suc (suc zero))) h = absurd (omega arith)
-rest shape (suc (suc (suc (suc zero)))) h = absurd (omega arith)
-rest shape (suc (suc (suc (suc (suc i))))) h = no_bit (4 * width shape) i
-
-others : (shape : PageShape) (s : ℕ) → 1 ≤ s → s < 4 → get_or (first_words shape) (gate_word s) 0 ≡ 65536
-others shape zero from near = absurd (omega arith)
-others shape (suc zero) from near = refl
-others shape (suc (suc zero)) from near = refl
-others shape (suc (suc (suc zero))) from near = refl
-others shape (suc (suc (suc (suc s)))) from near = absurd (omega arith)
-
-fresh : (shape : PageShape) → IsShape shape → IsFresh shape (first_words shape)
-fresh shape fit = record {
-  in_range = fit;
-  long = let e = length-replicate {A = ℕ} (4 * width shape) 0 in omega arith;
-  current_slot = refl;
-  first = refl;
-  others = others shape;
-  rest = rest shape;
-}
-
 -- one pass more is dealt
 one_dealt : (shape : PageShape) (words : List ℕ) (passes : ℕ) → passes < 16 → PlaneInvariant shape words (first_views passes) → PlaneInvariant shape words (first_views (passes + 1))
 one_dealt shape words passes few r =
     let v : View = keeper_view passes in
-    let f = own shape words (first_views passes) r v (the_keeper shape words (first_views passes) r 0 v refl refl) in
+    let f = keeper_fits shape words (first_views passes) r 0 v refl refl in
     let dealt : PlaneInvariant shape words (keeper_view (passes + 1) ∷ (map pass_view (range_with_len 0 passes) ++ pass_view passes ∷ [])) = splits shape words (first_views passes) 0 v refl refl f few in
     subst (λ (vs : List View). PlaneInvariant shape words (keeper_view (passes + 1) ∷ vs)) (sym (map-range_with_len_more pass_view 0 passes passes (omega arith))) dealt
 

@@ -3,14 +3,15 @@ use Rattle.std.proofs.Common.{◌≡◌, ℕ, ◌+◌, ◌*◌, ◌/◌, ◌%◌
 use mathlib.Core.Option.{some}
 use lib.ListN.{get_elem?}
 use Rattle.spie_base.specs.declared.PageShape.{PageShape}
-use Rattle.gate_core.specs.declared.states.Entry.{Entry}
+use Rattle.spie_base.specs.declared.types.Entry.{Entry}
 use Rattle.gate_core.specs.declared.states.SlotPhase.{SlotPhase}
 use Rattle.gate_core.specs.declared.states.SlotPhase.TheVariants.{Free, Open, Sealed, Quiet}
 use Rattle.bloom_page.specs.Bits.{bit_in}
 use Rattle.gate_core.specs.Marks.{width, size}
 use Rattle.gate_core.specs.Views.{Pass, Duties, View, slot_at, collected_of}
-use Rattle.gate_core.specs.Acts.{gate_word, bit_word}
-use Rattle.gate_core.specs.Invariant.{total, in_slot, pass_role, keeper_role, is_pass, is_keeper, seal_bit, HasPage, IsLive, taken, page_bit, HasMark, HasSet, Recorded, Marked, IsCollected, SlotsFit, ActorFits, PlaneFits}
+use Rattle.gate_core.specs.Acts.{gate_place, bit_place}
+use Rattle.gate_core.specs.Invariant.{total, in_slot, pass_role, keeper_role, is_pass, is_keeper, seal_bit, HasPage, IsLive, taken, page_bit, HasSet, Recorded, Marked, IsCollected, SlotsFit, ActorFits, PlaneFits}
+use Rattle.hash_family.specs.Entries.{IsMarked}
 use Rattle.gate_core.proofs.Lists.{at_set, some_set, some_unset, total-set}
 
 -- one actor's view becomes w, with the same duties
@@ -24,9 +25,9 @@ pub record Turns (shape : PageShape) (d : Duties) (v w : View) : Type 0 where
   pub longer : length v.entries ≤ length w.entries
   -- what is new is an entry of a page that stands
   pub fresh : (i : ℕ) (e : Entry) → get_elem? w.entries i ≡ some e → (get_elem? v.entries i ≡ some e) ⊎ ((s : ℕ) × (s < 4) × HasPage (slot_at d s).phase × ((slot_at d s).page ≡ e.page.number))
-  pub gives : (s p : ℕ) → s < 4 → HasPage (slot_at d s).phase → HasMark shape v (slot_at d s).page p ⊎ HasSet shape v.state s p → HasMark shape w (slot_at d s).page p ⊎ HasSet shape w.state s p
+  pub gives : (s p : ℕ) → s < 4 → HasPage (slot_at d s).phase → IsMarked shape v.entries (slot_at d s).page p ⊎ HasSet shape v.state s p → IsMarked shape w.entries (slot_at d s).page p ⊎ HasSet shape w.state s p
 
-pub mark_kept : (shape : PageShape) (v w : View) (page p : ℕ) → ((i : ℕ) (e : Entry) → get_elem? v.entries i ≡ some e → get_elem? w.entries i ≡ some e) → HasMark shape v page p → HasMark shape w page p
+pub mark_kept : (shape : PageShape) (v w : View) (page p : ℕ) → ((i : ℕ) (e : Entry) → get_elem? v.entries i ≡ some e → get_elem? w.entries i ≡ some e) → IsMarked shape v.entries page p → IsMarked shape w.entries page p
 mark_kept shape v w page p kept (i, e, at, of, among) = (i, e, kept i e at, of, among)
 
 -- a page that stands is not collected
@@ -34,7 +35,7 @@ pub not_both : (shape : PageShape) (d : Duties) (s page : ℕ) → SlotsFit shap
 not_both shape d s page fit near stands is whole = let a = fit.taken_words s near stands in let b = fit.taken_short s near in
     let c : length (collected_of d (slot_at d s).page) ≡ width shape = ap (λ (x : ℕ). length (collected_of d x)) is ∙ whole in omega arith
 
-pub page_bit_same : (shape : PageShape) (words words' : List ℕ) (d : Duties) (s p : ℕ) → get_or words' (bit_word shape s (p / 64)) 0 ≡ get_or words (bit_word shape s (p / 64)) 0 → page_bit shape words' d s p ≡ page_bit shape words d s p
+pub page_bit_same : (shape : PageShape) (words words' : List ℕ) (d : Duties) (s p : ℕ) → get_or words' (bit_place shape s (p / 64)) 0 ≡ get_or words (bit_place shape s (p / 64)) 0 → page_bit shape words' d s p ≡ page_bit shape words d s p
 page_bit_same shape words words' d s p e = ap (λ (x : ℕ). cond (nat_lt (p / 64) (length (collected_of d (slot_at d s).page))) (bit_in (collected_of d (slot_at d s).page) p) (x / 2 ^ (p % 64) % 2)) e
 
 -- no word of a live slot is collected
@@ -48,13 +49,13 @@ module _ (shape : PageShape) (words words' : List ℕ) (views : List View) (d : 
   -- a mark of a standing page is still one
   pub marked_still : (s p : ℕ) → s < 4 → HasPage (slot_at d s).phase → Marked shape views (slot_at d s).page s p → Marked shape (set views id w) (slot_at d s).page s p
   marked_still s p near stands m =
-      some_set (λ u. HasMark shape u (slot_at d s).page p ⊎ HasSet shape u.state s p) (λ u. HasMark shape u (slot_at d s).page p ⊎ HasSet shape u.state s p) views id v w there (λ u x. x) (t.gives s p near stands) m
+      some_set (λ u. IsMarked shape u.entries (slot_at d s).page p ⊎ HasSet shape u.state s p) (λ u. IsMarked shape u.entries (slot_at d s).page p ⊎ HasSet shape u.state s p) views id v w there (λ u x. x) (t.gives s p near stands) m
 
   -- the marks of a collected page are the same
   recorded_same : (page p : ℕ) → IsCollected shape d page → Recorded shape views page p ↔ Recorded shape (set views id w) page p
   recorded_same page p whole = (
-    some_set (λ u. HasMark shape u page p) (λ u. HasMark shape u page p) views id v w there (λ u x. x) (mark_kept shape v w page p t.kept),
-    λ r. ⊎_elim (λ x. x) (λ x. absurd x) (some_unset (λ u. HasMark shape u page p) (λ u. HasMark shape u page p) ⊥ views id v w there (λ u x. x)
+    some_set (λ u. IsMarked shape u.entries page p) (λ u. IsMarked shape u.entries page p) views id v w there (λ u x. x) (mark_kept shape v w page p t.kept),
+    λ r. ⊎_elim (λ x. x) (λ x. absurd x) (some_unset (λ u. IsMarked shape u.entries page p) (λ u. IsMarked shape u.entries page p) ⊥ views id v w there (λ u x. x)
         (λ (i, e, at, of, among). ⊎_elim (λ old. inl (i, e, old, of, among)) (λ (s, near, stands, is). absurd (not_both shape d s page f.slots near stands (is ∙ of) whole)) (t.fresh i e at)) r),
   )
 
@@ -76,8 +77,8 @@ module _ (shape : PageShape) (words words' : List ℕ) (views : List View) (d : 
 
   -- Only bit words of live slots may change, and the standing pages' bits are again their marks
   pub acted : length words' ≡ length words → get_or words' 0 0 ≡ get_or words 0 0
-      → ((s : ℕ) → s < 4 → get_or words' (gate_word s) 0 ≡ total (in_slot s) (set views id w) + seal_bit (slot_at d s).phase * 65536 + (slot_at d s).page * 4294967296)
-      → ((s i : ℕ) → s < 4 → i < width shape → (IsLive (slot_at d s).phase → ⊥) → get_or words' (bit_word shape s i) 0 ≡ get_or words (bit_word shape s i) 0)
+      → ((s : ℕ) → s < 4 → get_or words' (gate_place s) 0 ≡ total (in_slot s) (set views id w) + seal_bit (slot_at d s).phase * 65536 + (slot_at d s).page * 4294967296)
+      → ((s i : ℕ) → s < 4 → i < width shape → (IsLive (slot_at d s).phase → ⊥) → get_or words' (bit_place shape s i) 0 ≡ get_or words (bit_place shape s i) 0)
       → ((s : ℕ) → s < 4 → HasPage (slot_at d s).phase → (p : ℕ) → p < size shape → (page_bit shape words' d s p ≡ 1) ↔ Marked shape (set views id w) (slot_at d s).page s p)
       → ((i : ℕ) (e : Entry) → i < length mine → get_elem? mine' i ≡ some e → get_elem? mine i ≡ some e) → length mine ≤ length mine'
       → PlaneFits shape words' (set views id w) d mine'

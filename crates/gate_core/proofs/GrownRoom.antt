@@ -4,7 +4,7 @@ use Rattle.std.specs.Prelude.{Vec, slice_get, Some, All}
 use Rattle.std.specs.declared.alloc.Global.{Global}
 use Rattle.hash_family.specs.Positions.{family_of}
 use Rattle.std.proofs.Math.Nat.{suc-mul}
-use Rattle.gate_core.specs.declared.states.Entry.{Entry}
+use Rattle.spie_base.specs.declared.types.Entry.{Entry}
 use Rattle.gate_core.specs.declared.states.SlotPhase.{SlotPhase}
 use Rattle.gate_core.specs.declared.states.SlotPhase.TheVariants.{Free, Open, Sealed, Quiet}
 use Rattle.gate_core.specs.declared.core_data.CoreData.{CoreData}

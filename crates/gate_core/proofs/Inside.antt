@@ -3,11 +3,11 @@ use Rattle.std.proofs.Common.{◌≡◌, ℕ, ◌+◌, ◌<◌, ◌≤◌, List,
 use mathlib.Core.Option.{some}
 use lib.ListN.{get_elem?}
 use Rattle.spie_base.specs.declared.PageShape.{PageShape}
-use Rattle.gate_core.specs.declared.states.Entry.{Entry}
+use Rattle.spie_base.specs.declared.types.Entry.{Entry}
 use Rattle.gate_core.specs.declared.states.PassState.{PassState}
 use Rattle.gate_core.specs.declared.states.PassState.TheVariants.{Idle, Looked, Inside, Visiting}
 use Rattle.gate_core.specs.Views.{Role, Spent, Pass, Keeper, Duties, View, blank, slot_at}
-use Rattle.gate_core.specs.Acts.{inside_of, gate_word, busy}
+use Rattle.gate_core.specs.Acts.{inside_of, gate_place, busy}
 use Rattle.gate_core.specs.Invariant.{total, counts_in, in_slot, pass_role, is_pass, is_keeper, keeper_role, seal_bit, PlaneFits}
 use Rattle.gate_core.proofs.Lists.{at_set, total-set, total_le, term_le, terms_le}
 use Rattle.gate_core.proofs.Gates.{gate_inside, sealed_two}
@@ -20,8 +20,8 @@ busy_counts s (Inside t page sig m) = one_at_most s (Inside t page sig m)
 busy_counts s (Visiting t gate) = one_at_most s (Visiting t gate)
 
 -- the gate counts those that are Inside or Visiting the slot
-pub gate_counts : (shape : PageShape) (words : List ℕ) (views : List View) (d : Duties) (mine : List Entry) → PlaneFits shape words views d mine → (s : ℕ) → s < 4 → inside_of (get_or words (gate_word s) 0) ≡ total (in_slot s) views
-gate_counts shape words views d mine f s near = let c = crowd shape words views d mine f s in gate_inside (total (in_slot s) views) (seal_bit (slot_at d s).phase) (slot_at d s).page (get_or words (gate_word s) 0) (omega arith) (sealed_two (slot_at d s).phase) (f.gates s near)
+pub gate_counts : (shape : PageShape) (words : List ℕ) (views : List View) (d : Duties) (mine : List Entry) → PlaneFits shape words views d mine → (s : ℕ) → s < 4 → inside_of (get_or words (gate_place s) 0) ≡ total (in_slot s) views
+gate_counts shape words views d mine f s near = let c = crowd shape words views d mine f s in gate_inside (total (in_slot s) views) (seal_bit (slot_at d s).phase) (slot_at d s).page (get_or words (gate_place s) 0) (omega arith) (sealed_two (slot_at d s).phase) (f.gates s near)
 
 module _ (shape : PageShape) (words : List ℕ) (views : List View) (id : ℕ) (v : View) (there : get_elem? views id ≡ some v) (role : v.role ≡ Keeper) (f : PlaneFits shape words views v.duties v.entries) (s : ℕ) where
   -- of those inside, all but the keeper are passes

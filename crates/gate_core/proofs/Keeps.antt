@@ -10,16 +10,17 @@ use Rattle.spie_base.specs.declared.PageNo.{PageNo}
 use Rattle.spie_base.specs.declared.PageShape.{PageShape}
 use Rattle.gate_core.specs.declared.steps.Act.{Act}
 use Rattle.gate_core.specs.declared.steps.Act.TheVariants.{Look, Enter, Set, Leave}
-use Rattle.gate_core.specs.declared.states.Entry.{Entry}
+use Rattle.spie_base.specs.declared.types.Entry.{Entry}
 use Rattle.gate_core.specs.declared.states.PassState.{PassState}
 use Rattle.gate_core.specs.declared.states.PassState.TheVariants.{Idle, Looked, Inside, Visiting}
 use Rattle.gate_core.specs.declared.states.SlotPhase.{SlotPhase}
 use Rattle.gate_core.specs.declared.states.SlotPhase.TheVariants.{Free, Open, Sealed, Quiet}
 use Rattle.hash_family.specs.Positions.{position}
-use Rattle.gate_core.specs.Marks.{size, IsAmong}
+use Rattle.gate_core.specs.Marks.{size}
+use Rattle.hash_family.specs.Entries.{IsAmong, IsMarked}
 use Rattle.gate_core.specs.Views.{Role, Spent, Pass, Keeper, Duties, View, slot_at}
-use Rattle.gate_core.specs.Acts.{inside_of, seal_of, page_of, gate_word, bit_word, numbered, slot_of, moved_to, after_enter, after_set, after_leave, CanLook, HasLooked, CanSet, CanLeave, mask_of, record_word, word_of, word_after, view_after, Enabled}
-use Rattle.gate_core.specs.Invariant.{total, counts_in, in_slot, pass_role, keeper_role, is_pass, is_keeper, seal_bit, HasPage, IsLive, HasMark, HasSet, Marked, StateFits, IsLast, VisitFits, ActorFits, PlaneFits, PlaneInvariant}
+use Rattle.gate_core.specs.Acts.{inside_of, seal_of, page_of, gate_place, bit_place, numbered, slot_of, moved_to, after_enter, after_set, after_leave, CanLook, HasLooked, CanSet, CanLeave, mask_of, record_word, word_of, word_after, view_after, Enabled}
+use Rattle.gate_core.specs.Invariant.{total, counts_in, in_slot, pass_role, keeper_role, is_pass, is_keeper, seal_bit, HasPage, IsLive, HasSet, Marked, StateFits, IsLast, VisitFits, ActorFits, PlaneFits, PlaneInvariant}
 use Rattle.gate_core.proofs.Lists.{at_within, set_here, set_else, at_longer, at_last, at_snoc, same_at, some_unset, total-set, term_le, total_le}
 use Rattle.gate_core.proofs.Gates.{gate_inside, gate_seal, gate_page, one_more, one_less, sealed_two, unsealed_open, tested}
 use Rattle.gate_core.proofs.Bits.{position_below, other_word, one_bit_more}
@@ -67,28 +68,28 @@ turned shape words words' views r id v w there t make = dite (ℕ_discrete r.pla
 
 -- an act on a gate, or on no word: bit words stay
 module _ (shape : PageShape) (words : List ℕ) (views : List View) (r : PlaneInvariant shape words views) (id : ℕ) (v w : View) (there : get_elem? views id ≡ some v) (t : Turns shape r.head.duties v w)
-    (takes : (s p : ℕ) → s < 4 → HasPage (slot_at r.head.duties s).phase → HasMark shape w (slot_at r.head.duties s).page p ⊎ HasSet shape w.state s p → HasMark shape v (slot_at r.head.duties s).page p ⊎ HasSet shape v.state s p) where
+    (takes : (s p : ℕ) → s < 4 → HasPage (slot_at r.head.duties s).phase → IsMarked shape w.entries (slot_at r.head.duties s).page p ⊎ HasSet shape w.state s p → IsMarked shape v.entries (slot_at r.head.duties s).page p ⊎ HasSet shape v.state s p) where
   marked_back : (s p : ℕ) → s < 4 → HasPage (slot_at r.head.duties s).phase → Marked shape (set views id w) (slot_at r.head.duties s).page s p → Marked shape views (slot_at r.head.duties s).page s p
   marked_back s p near stands m = let page : ℕ = (slot_at r.head.duties s).page in ⊎_elim (λ x. x) (λ x. absurd x)
-      (some_unset (λ u. HasMark shape u page p ⊎ HasSet shape u.state s p) (λ u. HasMark shape u page p ⊎ HasSet shape u.state s p) ⊥ views id v w there (λ u x. x) (λ x. inl (takes s p near stands x)) m)
+      (some_unset (λ u. IsMarked shape u.entries page p ⊎ HasSet shape u.state s p) (λ u. IsMarked shape u.entries page p ⊎ HasSet shape u.state s p) ⊥ views id v w there (λ u x. x) (λ x. inl (takes s p near stands x)) m)
 
   quiet_act : (words' : List ℕ) → length words' ≡ length words → get_or words' 0 0 ≡ get_or words 0 0 → ((i : ℕ) → 5 ≤ i → get_or words' i 0 ≡ get_or words i 0)
-      → ((s : ℕ) → s < 4 → get_or words' (gate_word s) 0 ≡ total (in_slot s) (set views id w) + seal_bit (slot_at r.head.duties s).phase * 65536 + (slot_at r.head.duties s).page * 4294967296) → PlaneInvariant shape words' (set views id w)
+      → ((s : ℕ) → s < 4 → get_or words' (gate_place s) 0 ≡ total (in_slot s) (set views id w) + seal_bit (slot_at r.head.duties s).phase * 65536 + (slot_at r.head.duties s).page * 4294967296) → PlaneInvariant shape words' (set views id w)
   quiet_act words' long current bits gates = let d : Duties = r.head.duties in turned shape words words' views r id v w there t (λ mine' first longer.
-      acted shape words words' views d r.head.entries mine' id v w r.fits there t long current gates (λ s i near lt dead. bits (bit_word shape s i) (omega arith))
-      (λ s near stands p small. let same = page_bit_same shape words words' d s p (bits (bit_word shape s (p / 64)) (omega arith)) in let old = r.fits.slot_words s near stands p small in
+      acted shape words words' views d r.head.entries mine' id v w r.fits there t long current gates (λ s i near lt dead. bits (bit_place shape s i) (omega arith))
+      (λ s near stands p small. let same = page_bit_same shape words words' d s p (bits (bit_place shape s (p / 64)) (omega arith)) in let old = r.fits.slot_words s near stands p small in
       ((λ b. marked_still shape words words' views d r.head.entries mine' id v w r.fits there t s p near stands (old.0 (sym same ∙ b))), λ m. same ∙ old.1 (marked_back s p near stands m)))
       first longer)
 
   -- the gate of s becomes x
   gate_act : (s x : ℕ) → s < 4 → x ≡ total (in_slot s) (set views id w) + seal_bit (slot_at r.head.duties s).phase * 65536 + (slot_at r.head.duties s).page * 4294967296
-      → ((o : ℕ) → o ≢ s → total (in_slot o) (set views id w) ≡ total (in_slot o) views) → PlaneInvariant shape (set words (gate_word s) x) (set views id w)
-  gate_act s x near is others = let d : Duties = r.head.duties in quiet_act (set words (gate_word s) x) (length-set words (gate_word s) x) (get_or-set_other words (gate_word s) 0 x 0 (λ e. omega arith))
-      (λ i big. get_or-set_other words (gate_word s) i x 0 (λ e. omega arith))
+      → ((o : ℕ) → o ≢ s → total (in_slot o) (set views id w) ≡ total (in_slot o) views) → PlaneInvariant shape (set words (gate_place s) x) (set views id w)
+  gate_act s x near is others = let d : Duties = r.head.duties in quiet_act (set words (gate_place s) x) (length-set words (gate_place s) x) (get_or-set_other words (gate_place s) 0 x 0 (λ e. omega arith))
+      (λ i big. get_or-set_other words (gate_place s) i x 0 (λ e. omega arith))
       (λ o small. dite (ℕ_discrete o s)
-      (λ e. subst (λ (k : ℕ). get_or (set words (gate_word s) x) (gate_word k) 0 ≡ total (in_slot k) (set views id w) + seal_bit (slot_at d k).phase * 65536 + (slot_at d k).page * 4294967296) (sym e)
-      (get_or-set_same words (gate_word s) x 0 (let a = r.fits.long in omega arith) ∙ is))
-      (λ ne. let a = others o ne in let b = r.fits.gates o small in get_or-set_other words (gate_word s) (gate_word o) x 0 (λ e. ne (omega arith)) ∙ (b ∙ (omega arith))))
+      (λ e. subst (λ (k : ℕ). get_or (set words (gate_place s) x) (gate_place k) 0 ≡ total (in_slot k) (set views id w) + seal_bit (slot_at d k).phase * 65536 + (slot_at d k).page * 4294967296) (sym e)
+      (get_or-set_same words (gate_place s) x 0 (let a = r.fits.long in omega arith) ∙ is))
+      (λ ne. let a = others o ne in let b = r.fits.gates o small in get_or-set_other words (gate_place s) (gate_place o) x 0 (λ e. ne (omega arith)) ∙ (b ∙ (omega arith))))
 
 -- ---- where the actor is
 
@@ -112,10 +113,10 @@ counts_same s = tested (λ x. x ≡ 1) s s 1 0 (λ _. refl) (λ n. absurd (n ref
 
 -- entries stay
 module _ (shape : PageShape) (d : Duties) (v w : View) (same : w.entries ≡ v.entries) where
-  mark_same : (page p : ℕ) → HasMark shape v page p → HasMark shape w page p
+  mark_same : (page p : ℕ) → IsMarked shape v.entries page p → IsMarked shape w.entries page p
   mark_same page p (i, e, at, of, among) = (i, e, ap (λ (es : List Entry). get_elem? es i) same ∙ at, of, among)
 
-  mark_back : (page p : ℕ) → HasMark shape w page p → HasMark shape v page p
+  mark_back : (page p : ℕ) → IsMarked shape w.entries page p → IsMarked shape v.entries page p
   mark_back page p (i, e, at, of, among) = (i, e, ap (λ (es : List Entry). get_elem? es i) (sym same) ∙ at, of, among)
 
 -- a new state for the actor, nothing else
@@ -160,12 +161,12 @@ module _ (shape : PageShape) (words : List ℕ) (views : List View) (r : PlaneIn
       (λ s p near stands x. ⊎_elim inl (λ h. absurd h) x)
       (set words 0 n) (length-set words 0 n) (ap (λ (ws : List ℕ). get_or ws 0 0) same) (λ i big. ap (λ (ws : List ℕ). get_or ws i 0) same)
       (λ s near. let a = total-set (in_slot s) views id v w there in let b : in_slot s v ≡ 0 = no_count v.state can s in
-      ap (λ (ws : List ℕ). get_or ws (gate_word s) 0) same ∙ (r.fits.gates s near ∙ (omega arith)))
+      ap (λ (ws : List ℕ). get_or ws (gate_place s) 0) same ∙ (r.fits.gates s near ∙ (omega arith)))
 
   -- ---- enter
 
   abbrev gate_of : ℕ → ℕ
-  gate_of s = get_or words (gate_word s) 0
+  gate_of s = get_or words (gate_place s) 0
 
   gate_parts : (s : ℕ) → s < 4 → (inside_of (gate_of s) ≡ total (in_slot s) views) × (seal_of (gate_of s) ≡ seal_bit (slot_at d s).phase) × (page_of (gate_of s) ≡ (slot_at d s).page)
   gate_parts s near = let g = r.fits.gates s near in let a : ℕ = total (in_slot s) views in let c = crowd shape words views d r.head.entries r.fits s in let few : a < 65536 = omega arith in let two = sealed_two (slot_at d s).phase in
@@ -179,14 +180,14 @@ module _ (shape : PageShape) (words : List ℕ) (views : List View) (r : PlaneIn
     none_set o p h = subst (λ (st : PassState). HasSet shape st o p) is h
 
     -- the state after counts in s, and nowhere else
-    joined : (w : View) → ((o : ℕ) → in_slot o w ≡ hit s o) → Turns shape d v w → ((o p : ℕ) → o < 4 → HasPage (slot_at d o).phase → HasMark shape w (slot_at d o).page p ⊎ HasSet shape w.state o p → HasMark shape v (slot_at d o).page p ⊎ HasSet shape v.state o p)
-        → PlaneInvariant shape (set words (gate_word s) ((gate_of s + 1) % 2 ^ 64)) (set views id w)
+    joined : (w : View) → ((o : ℕ) → in_slot o w ≡ hit s o) → Turns shape d v w → ((o p : ℕ) → o < 4 → HasPage (slot_at d o).phase → IsMarked shape w.entries (slot_at d o).page p ⊎ HasSet shape w.state o p → IsMarked shape v.entries (slot_at d o).page p ⊎ HasSet shape v.state o p)
+        → PlaneInvariant shape (set words (gate_place s) ((gate_of s + 1) % 2 ^ 64)) (set views id w)
     joined w counts t takes = let more = one_more (gate_of s) (gate_small s near) in let g = r.fits.gates s near in let was : (o : ℕ) → in_slot o v ≡ 0 = λ o. ap (counts_in o) is in
         gate_act shape words views r id v w there t takes s ((gate_of s + 1) % 2 ^ 64) near
         (let a = total-set (in_slot s) views id v w there in let b = was s in let c = counts s in let e = counts_same s in more ∙ (omega arith))
         (λ o ne. let a = total-set (in_slot o) views id v w there in let b = was o in let c = counts o in let e = counts_other s o ne in omega arith)
 
-    enters_open : (sig : Sig) → seal_of (gate_of s) ≡ 0 → PlaneInvariant shape (set words (gate_word s) ((gate_of s + 1) % 2 ^ 64)) (set views id (moved_to v (Inside s (numbered (page_of (gate_of s))) sig 0)))
+    enters_open : (sig : Sig) → seal_of (gate_of s) ≡ 0 → PlaneInvariant shape (set words (gate_place s) ((gate_of s + 1) % 2 ^ 64)) (set views id (moved_to v (Inside s (numbered (page_of (gate_of s))) sig 0)))
     enters_open sig unsealed = let k = r.fits.actors id v there in let parts = gate_parts s near in let page : ℕ = page_of (gate_of s) in let st : PassState = Inside s (numbered page) sig 0 in
         let ph : (slot_at d s).phase ≡ Open = unsealed_open (slot_at d s).phase (sym parts.1 ∙ unsealed) in let end = r.fits.slots.open_last s near ph in
         joined (moved_to v st) (λ o. refl)
@@ -197,7 +198,7 @@ module _ (shape : PageShape) (words : List ℕ) (views : List View) (r : PlaneIn
     abbrev visiting : View
     visiting = record v { state = Visiting s (gate_of s); visits = v.visits ++ record { slot = s; gate = gate_of s } ∷ [] }
 
-    enters_sealed : seal_of (gate_of s) ≡ 1 → PlaneInvariant shape (set words (gate_word s) ((gate_of s + 1) % 2 ^ 64)) (set views id visiting)
+    enters_sealed : seal_of (gate_of s) ≡ 1 → PlaneInvariant shape (set words (gate_place s) ((gate_of s + 1) % 2 ^ 64)) (set views id visiting)
     enters_sealed shut = let k = r.fits.actors id v there in let parts = gate_parts s near in let page : ℕ = page_of (gate_of s) in
         let fit : VisitFits d v.floor (record { slot = s; gate = gate_of s }) = record {
           sealed_gate = shut;
@@ -230,11 +231,11 @@ module _ (shape : PageShape) (words : List ℕ) (views : List View) (r : PlaneIn
         }
         (λ o p small stands x. ⊎_elim inl (λ h. absurd h) x)
 
-    enters_at : (sig : Sig) → PlaneInvariant shape (set words (gate_word s) ((gate_of s + 1) % 2 ^ 64)) (set views id (after_enter v s sig (gate_of s)))
-    enters_at sig = tested (λ w. PlaneInvariant shape (set words (gate_word s) ((gate_of s + 1) % 2 ^ 64)) (set views id w)) (seal_of (gate_of s)) 0 (moved_to v (Inside s (numbered (page_of (gate_of s))) sig 0)) visiting
+    enters_at : (sig : Sig) → PlaneInvariant shape (set words (gate_place s) ((gate_of s + 1) % 2 ^ 64)) (set views id (after_enter v s sig (gate_of s)))
+    enters_at sig = tested (λ w. PlaneInvariant shape (set words (gate_place s) ((gate_of s + 1) % 2 ^ 64)) (set views id w)) (seal_of (gate_of s)) 0 (moved_to v (Inside s (numbered (page_of (gate_of s))) sig 0)) visiting
         (enters_open sig) (λ ne. enters_sealed (omega arith))
 
-  pub enters : (sig : Sig) → HasLooked v.state → PlaneInvariant shape (set words (gate_word (slot_of v.state)) ((gate_of (slot_of v.state) + 1) % 2 ^ 64)) (set views id (after_enter v (slot_of v.state) sig (gate_of (slot_of v.state))))
+  pub enters : (sig : Sig) → HasLooked v.state → PlaneInvariant shape (set words (gate_place (slot_of v.state)) ((gate_of (slot_of v.state) + 1) % 2 ^ 64)) (set views id (after_enter v (slot_of v.state) sig (gate_of (slot_of v.state))))
   enters sig h = let s : ℕ = slot_of v.state in let is : v.state ≡ Looked s = looked_is v.state h in let k = r.fits.actors id v there in let fit : StateFits shape d v.floor (Looked s) = subst (StateFits shape d v.floor) is k.state in
       enters_at s is fit.0 fit.1 fit.2 sig
 
@@ -242,15 +243,15 @@ module _ (shape : PageShape) (words : List ℕ) (views : List View) (r : PlaneIn
 
   -- the state before counts in s and nowhere else, the state after nowhere
   parted : (s : ℕ) (w : View) → s < 4 → ((o : ℕ) → in_slot o v ≡ hit s o) → ((o : ℕ) → in_slot o w ≡ 0) → Turns shape d v w
-      → ((o p : ℕ) → o < 4 → HasPage (slot_at d o).phase → HasMark shape w (slot_at d o).page p ⊎ HasSet shape w.state o p → HasMark shape v (slot_at d o).page p ⊎ HasSet shape v.state o p)
-      → PlaneInvariant shape (set words (gate_word s) ((gate_of s + (2 ^ 64 - 1)) % 2 ^ 64)) (set views id w)
+      → ((o p : ℕ) → o < 4 → HasPage (slot_at d o).phase → IsMarked shape w.entries (slot_at d o).page p ⊎ HasSet shape w.state o p → IsMarked shape v.entries (slot_at d o).page p ⊎ HasSet shape v.state o p)
+      → PlaneInvariant shape (set words (gate_place s) ((gate_of s + (2 ^ 64 - 1)) % 2 ^ 64)) (set views id w)
   parted s w near was now t takes = let g = r.fits.gates s near in let one = term_le (in_slot s) views id v there in let b = was s in let e = counts_same s in let small = gate_small s near in
       let less = one_less (gate_of s) (omega arith) (omega arith) in
       gate_act shape words views r id v w there t takes s ((gate_of s + (2 ^ 64 - 1)) % 2 ^ 64) near
       (let a = total-set (in_slot s) views id v w there in let c = now s in less ∙ (omega arith))
       (λ o ne. let a = total-set (in_slot o) views id v w there in let x = was o in let c = now o in let y = counts_other s o ne in omega arith)
 
-  leaves_visit : (s gate : ℕ) → v.state ≡ Visiting s gate → PlaneInvariant shape (set words (gate_word s) ((gate_of s + (2 ^ 64 - 1)) % 2 ^ 64)) (set views id (moved_to v Idle))
+  leaves_visit : (s gate : ℕ) → v.state ≡ Visiting s gate → PlaneInvariant shape (set words (gate_place s) ((gate_of s + (2 ^ 64 - 1)) % 2 ^ 64)) (set views id (moved_to v Idle))
   leaves_visit s gate is = let k = r.fits.actors id v there in let fit : StateFits shape d v.floor (Visiting s gate) = subst (StateFits shape d v.floor) is k.state in
       parted s (moved_to v Idle) fit.0 (λ o. ap (counts_in o) is) (λ o. refl)
       (restaged shape d v Idle k tt (λ _. tt) alive (λ o p h. subst (λ (st : PassState). HasSet shape st o p) is h))
@@ -281,12 +282,12 @@ module _ (shape : PageShape) (words : List ℕ) (views : List View) (r : PlaneIn
         ⊎_elim (λ old'. let b = at_within v.entries j f old' in absurd (omega arith)) (λ new'. let b : page.number ≡ f.page.number = ap (λ (q : Entry). q.page.number) new'.1 in omega arith) (at_snoc v.entries new f j y))
         (at_snoc v.entries new e i x)
 
-    gives_mark : (o p : ℕ) → o < 4 → HasPage (slot_at d o).phase → HasMark shape v (slot_at d o).page p ⊎ HasSet shape v.state o p → HasMark shape after (slot_at d o).page p ⊎ HasSet shape after.state o p
+    gives_mark : (o p : ℕ) → o < 4 → HasPage (slot_at d o).phase → IsMarked shape v.entries (slot_at d o).page p ⊎ HasSet shape v.state o p → IsMarked shape after.entries (slot_at d o).page p ⊎ HasSet shape after.state o p
     gives_mark o p small stands x = ⊎_elim (λ old. inl (mark_kept shape v after (slot_at d o).page p (λ i e at. at_longer v.entries (new ∷ []) i e at) old))
         (λ h. let h' : HasSet shape (Inside s page sig m) o p = subst (λ (st : PassState). HasSet shape st o p) is h in let same : page.number ≡ (slot_at d o).page = in_fit.3 ∙ ap (λ (z : ℕ). (slot_at d z).page) h'.0 in
         inl (length v.entries, new, at_last v.entries new, same, subst (λ (g : ℕ). IsAmong shape g sig shape.k p) same (subst (λ (c : ℕ). IsAmong shape page.number sig c p) full h'.1))) x
 
-    takes_mark : (o p : ℕ) → o < 4 → HasPage (slot_at d o).phase → HasMark shape after (slot_at d o).page p ⊎ HasSet shape after.state o p → HasMark shape v (slot_at d o).page p ⊎ HasSet shape v.state o p
+    takes_mark : (o p : ℕ) → o < 4 → HasPage (slot_at d o).phase → IsMarked shape after.entries (slot_at d o).page p ⊎ HasSet shape after.state o p → IsMarked shape v.entries (slot_at d o).page p ⊎ HasSet shape v.state o p
     takes_mark o p small stands x = ⊎_elim (λ (i, e, at, of, among). ⊎_elim (λ old. inl (i, e, old, of, among))
         (λ newest. let pg : page.number ≡ (slot_at d o).page = ap (λ (q : Entry). q.page.number) newest.1 ∙ of in
         let same : s ≡ o = r.fits.slots.used_apart s o in_fit.0 small in_fit.1 (r.fits.slots.stands_used o small stands) (sym in_fit.3 ∙ pg) in
@@ -294,7 +295,7 @@ module _ (shape : PageShape) (words : List ℕ) (views : List View) (r : PlaneIn
         inr (subst (λ (st : PassState). HasSet shape st o p) (sym is) (same, subst (λ (c : ℕ). IsAmong shape page.number sig c p) (sym full) (subst (λ (g : ℕ). IsAmong shape g sig shape.k p) (sym pg) among'))))
         (at_snoc v.entries new e i at)) (λ h. absurd h) x
 
-    leaves_inside : PlaneInvariant shape (set words (gate_word s) ((gate_of s + (2 ^ 64 - 1)) % 2 ^ 64)) (set views id after)
+    leaves_inside : PlaneInvariant shape (set words (gate_place s) ((gate_of s + (2 ^ 64 - 1)) % 2 ^ 64)) (set views id after)
     leaves_inside = let k = r.fits.actors id v there in let fit = in_fit in let below = r.fits.slots.used_below s fit.0 fit.1 in
         parted s after fit.0 (λ o. ap (counts_in o) is) (λ o. refl)
         record {
@@ -320,13 +321,13 @@ module _ (shape : PageShape) (words : List ℕ) (views : List View) (r : PlaneIn
         }
         takes_mark
 
-  leaves_from : (st : PassState) → v.state ≡ st → CanLeave shape st → PlaneInvariant shape (set words (gate_word (slot_of st)) ((gate_of (slot_of st) + (2 ^ 64 - 1)) % 2 ^ 64)) (set views id (after_leave v st))
+  leaves_from : (st : PassState) → v.state ≡ st → CanLeave shape st → PlaneInvariant shape (set words (gate_place (slot_of st)) ((gate_of (slot_of st) + (2 ^ 64 - 1)) % 2 ^ 64)) (set views id (after_leave v st))
   leaves_from Idle is can = absurd can
   leaves_from (Looked s) is can = absurd can
   leaves_from (Inside s page sig m) is can = leaves_inside s page sig m is can
   leaves_from (Visiting s gate) is can = leaves_visit s gate is
 
-  pub leaves : CanLeave shape v.state → PlaneInvariant shape (set words (gate_word (slot_of v.state)) ((gate_of (slot_of v.state) + (2 ^ 64 - 1)) % 2 ^ 64)) (set views id (after_leave v v.state))
+  pub leaves : CanLeave shape v.state → PlaneInvariant shape (set words (gate_place (slot_of v.state)) ((gate_of (slot_of v.state) + (2 ^ 64 - 1)) % 2 ^ 64)) (set views id (after_leave v v.state))
   leaves can = leaves_from v.state refl can
 
   -- ---- set
@@ -339,7 +340,7 @@ module _ (shape : PageShape) (words : List ℕ) (views : List View) (r : PlaneIn
     further_on = moved_to v (Inside s page sig (m + 1))
 
     abbrev fuller : List ℕ
-    fuller = set words (bit_word shape s (q / 64)) (bit_or (get_or words (bit_word shape s (q / 64)) 0) (2 ^ (q % 64)))
+    fuller = set words (bit_place shape s (q / 64)) (bit_or (get_or words (bit_place shape s (q / 64)) 0) (2 ^ (q % 64)))
 
     inside_fit : StateFits shape d v.floor (Inside s page sig m)
     inside_fit = let k = r.fits.actors id v there in subst (StateFits shape d v.floor) is k.state
@@ -355,23 +356,23 @@ module _ (shape : PageShape) (words : List ℕ) (views : List View) (r : PlaneIn
         (λ o p h. let h' : HasSet shape (Inside s page sig m) o p = subst (λ (st : PassState). HasSet shape st o p) is h in (h'.0, (h'.1.0, (let a = h'.1.1 in omega arith), h'.1.2)))
 
     -- a mark after the step was one before, or is the new bit
-    new_mark : (o p : ℕ) → HasMark shape further_on (slot_at d o).page p ⊎ HasSet shape further_on.state o p → (HasMark shape v (slot_at d o).page p ⊎ HasSet shape v.state o p) ⊎ ((o ≡ s) × (p ≡ q))
+    new_mark : (o p : ℕ) → IsMarked shape further_on.entries (slot_at d o).page p ⊎ HasSet shape further_on.state o p → (IsMarked shape v.entries (slot_at d o).page p ⊎ HasSet shape v.state o p) ⊎ ((o ≡ s) × (p ≡ q))
     new_mark o p x = ⊎_elim (λ old. inl (inl old)) (λ (h : (s ≡ o) × IsAmong shape page.number sig (m + 1) p). dite (ℕ_discrete h.1.0 m)
         (λ e. inr (sym h.0, sym h.1.2 ∙ ap (position shape page.number sig) e))
         (λ ne. inl (inr (subst (λ (st : PassState). HasSet shape st o p) (sym is) (h.0, (h.1.0, (let a = h.1.1 in omega arith), h.1.2)))))) x
 
     sets_at : PlaneInvariant shape fuller (set views id further_on)
     sets_at = let fit = inside_fit in let f = r.fits in turned shape words fuller views r id v further_on there step_on (λ mine' first longer.
-        acted shape words fuller views d r.head.entries mine' id v further_on f there step_on (length-set words (bit_word shape s (q / 64)) (bit_or (get_or words (bit_word shape s (q / 64)) 0) (2 ^ (q % 64))))
-        (get_or-set_other words (bit_word shape s (q / 64)) 0 (bit_or (get_or words (bit_word shape s (q / 64)) 0) (2 ^ (q % 64))) 0 (λ e. omega arith))
+        acted shape words fuller views d r.head.entries mine' id v further_on f there step_on (length-set words (bit_place shape s (q / 64)) (bit_or (get_or words (bit_place shape s (q / 64)) 0) (2 ^ (q % 64))))
+        (get_or-set_other words (bit_place shape s (q / 64)) 0 (bit_or (get_or words (bit_place shape s (q / 64)) 0) (2 ^ (q % 64))) 0 (λ e. omega arith))
         (λ o small. let a = total-set (in_slot o) views id v further_on there in let b : in_slot o v ≡ hit s o = ap (counts_in o) is in let c = f.gates o small in
-        get_or-set_other words (bit_word shape s (q / 64)) (gate_word o) (bit_or (get_or words (bit_word shape s (q / 64)) 0) (2 ^ (q % 64))) 0 (λ e. omega arith) ∙ (c ∙ (omega arith)))
+        get_or-set_other words (bit_place shape s (q / 64)) (gate_place o) (bit_or (get_or words (bit_place shape s (q / 64)) 0) (2 ^ (q % 64))) 0 (λ e. omega arith) ∙ (c ∙ (omega arith)))
         (λ o i small lt dead. other_word shape words d s q f.slots fit.0 fit.4 f.long q_below o i lt (inl (λ e. dead (subst (λ (k : ℕ). IsLive (slot_at d k).phase) (sym e) fit.4))))
         (λ o small stands p within. let told = one_bit_more shape words d s q f.slots fit.0 fit.4 f.long q_below o p within in let old = f.slot_words o small stands p within in (
           (λ one. ⊎_elim (λ b. marked_still shape words fuller views d r.head.entries mine' id v further_on f there step_on o p small stands (old.0 b))
               (λ n. (id, further_on, set_here views id further_on v there, inr (sym n.0, (m, (let g : m < m + 1 = omega arith in g), sym n.1)))) (told.0 one)),
           λ marked. told.1 (⊎_elim (λ x. inl (old.1 x)) (λ n. inr n)
-              (some_unset (λ u. HasMark shape u (slot_at d o).page p ⊎ HasSet shape u.state o p) (λ u. HasMark shape u (slot_at d o).page p ⊎ HasSet shape u.state o p) ((o ≡ s) × (p ≡ q)) views id v further_on there (λ u x. x) (new_mark o p) marked)),
+              (some_unset (λ u. IsMarked shape u.entries (slot_at d o).page p ⊎ HasSet shape u.state o p) (λ u. IsMarked shape u.entries (slot_at d o).page p ⊎ HasSet shape u.state o p) ((o ≡ s) × (p ≡ q)) views id v further_on there (λ u x. x) (new_mark o p) marked)),
         ))
         first longer)
 

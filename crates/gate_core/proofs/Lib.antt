@@ -9,6 +9,10 @@ pub mod Duty
 pub mod Seals
 pub mod Deals
 pub mod Alone
+pub mod OpenSlot
+pub mod DrainedWords
+pub mod Readings
+pub mod FreshWords
 pub mod Starts
 pub mod Points
 pub mod Settles
@@ -40,6 +44,7 @@ pub mod Options
 pub mod Members
 pub mod PageMarks
 pub mod StepFacts
+pub mod Whose
 pub mod StaysSound
 pub mod PlayFacts
 pub mod GrownRoom

@@ -13,7 +13,7 @@ use Rattle.gate_core.specs.declared.states.SlotPhase.TheVariants.{Free, Open}
 use Rattle.bloom_page.specs.Bits.{bit_in}
 use Rattle.gate_core.specs.Marks.{width, size}
 use Rattle.gate_core.specs.Views.{Keeper, Slot, Duties, View, slot_at, collected_of}
-use Rattle.gate_core.specs.Acts.{page_of, gate_word, bit_word, with_slot, open_slot, after_open}
+use Rattle.gate_core.specs.Acts.{page_of, gate_place, bit_place, with_slot, open_slot, after_open}
 use Rattle.gate_core.specs.Invariant.{total, in_slot, seal_bit, HasPage, IsLive, taken, page_bit, HasSet, Marked, StateFits, SlotsFit, ActorFits, PlaneFits, PlaneInvariant}
 use Rattle.gate_core.proofs.Bits.{page_bit_none}
 use Rattle.gate_core.proofs.Slots.{slot_here, slot_else, slot_case, none_open}
@@ -43,13 +43,13 @@ module _ (shape : PageShape) (words : List ℕ) (views : List View) (id : ℕ) (
   d = v.duties
 
   abbrev n : ℕ
-  n = get_or words (gate_word s) 0
+  n = get_or words (gate_place s) 0
 
   abbrev n' : ℕ
   n' = (n + (d.next * 4294967296 + 2 ^ 64 - (slot_at d s).page * 4294967296 - 65536) % 2 ^ 64) % 2 ^ 64
 
   abbrev words' : List ℕ
-  words' = set words (gate_word s) n'
+  words' = set words (gate_place s) n'
 
   abbrev new : Slot
   new = record { phase = Open; page = d.next; used = true }
@@ -148,17 +148,17 @@ module _ (shape : PageShape) (words : List ℕ) (views : List View) (id : ℕ) (
     gone = k.gone;
   }
 
-  still : (i : ℕ) → i ≢ gate_word s → get_or words' i 0 ≡ get_or words i 0
-  still i ne = get_or-set_other words (gate_word s) i n' 0 ne
+  still : (i : ℕ) → i ≢ gate_place s → get_or words' i 0 ≡ get_or words i 0
+  still i ne = get_or-set_other words (gate_place s) i n' 0 ne
 
   bit_else : (t p : ℕ) → t ≢ s → page_bit shape words' d' t p ≡ page_bit shape words d t p
-  bit_else t p ne = let e = ap (λ (y : Slot). y.page) (other t ne) in let q : collected_of d' (slot_at d' t).page ≡ collected_of d (slot_at d t).page = same_pieces (slot_at d' t).page ∙ ap (collected_of d) e in let b = still (bit_word shape t (p / 64)) (λ z. omega arith) in
+  bit_else t p ne = let e = ap (λ (y : Slot). y.page) (other t ne) in let q : collected_of d' (slot_at d' t).page ≡ collected_of d (slot_at d t).page = same_pieces (slot_at d' t).page ∙ ap (collected_of d) e in let b = still (bit_place shape t (p / 64)) (λ z. omega arith) in
       λ k. cond (nat_lt (p / 64) (length (q k))) (bit_in (q k) p) (b k / 2 ^ (p % 64) % 2)
 
   -- the new page begins with no mark
   bit_here : (p : ℕ) → p < size shape → page_bit shape words' d' s p ≡ 0
   bit_here p lt = let e : length (collected_of d' (slot_at d' s).page) ≡ 0 = ap (λ (g : ℕ). length (collected_of d' g)) page_here ∙ (ap length (same_pieces d.next) ∙ no_pieces) in
-      page_bit_none shape words' d' s p e ∙ (ap (λ (y : ℕ). y / 2 ^ (p % 64) % 2) (still (bit_word shape s (p / 64)) (λ z. omega arith) ∙ f.free_words s near free (p / 64) (omega arith)) ∙ bit_at-zero (p % 64))
+      page_bit_none shape words' d' s p e ∙ (ap (λ (y : ℕ). y / 2 ^ (p % 64) % 2) (still (bit_place shape s (p / 64)) (λ z. omega arith) ∙ f.free_words s near free (p / 64) (omega arith)) ∙ bit_at-zero (p % 64))
 
   none_set : (st : PassState) (floor p : ℕ) → StateFits shape d floor st → HasSet shape st s p → ⊥
   none_set Idle floor p k h = h
@@ -169,17 +169,17 @@ module _ (shape : PageShape) (words : List ℕ) (views : List View) (id : ℕ) (
   none_marked : (p : ℕ) → Marked shape views d.next s p → ⊥
   none_marked p (j, u, at, y) = ⊎_elim (λ (i, e, at', of, among). let a = ((f.actors j u at).entries i e at').0 in omega arith) (λ h. none_set u.state u.floor p (f.actors j u at).state h) y
 
-  gates' : (t : ℕ) → t < 4 → get_or words' (gate_word t) 0 ≡ total (in_slot t) views + seal_bit (slot_at d' t).phase * 65536 + (slot_at d' t).page * 4294967296
+  gates' : (t : ℕ) → t < 4 → get_or words' (gate_place t) 0 ≡ total (in_slot t) views + seal_bit (slot_at d' t).phase * 65536 + (slot_at d' t).page * 4294967296
   gates' t small = dite (ℕ_discrete t s)
       (λ e. let g = f.gates s near in let shut : seal_bit (slot_at d s).phase ≡ 1 = ap seal_bit free in let c = crowd shape words views d v.entries f s in let p : ℕ = (slot_at d s).page in
       let made = reopened (total (in_slot s) views) p d.next n c (f.slots.page_within s near) room (g ∙ (λ k. total (in_slot s) views + shut k * 65536 + p * 4294967296)) in
-      subst (λ (i : ℕ). get_or words' (gate_word i) 0 ≡ total (in_slot i) views + seal_bit (slot_at d' i).phase * 65536 + (slot_at d' i).page * 4294967296) (sym e)
-      (get_or-set_same words (gate_word s) n' 0 (let l = f.long in omega arith) ∙ (made ∙ (λ k. total (in_slot s) views + seal_bit (sym here k).phase * 65536 + (sym here k).page * 4294967296))))
-      (λ ne. still (gate_word t) (λ z. ne (omega arith)) ∙ (f.gates t small ∙ (λ k. total (in_slot t) views + seal_bit (sym (other t ne) k).phase * 65536 + (sym (other t ne) k).page * 4294967296)))
+      subst (λ (i : ℕ). get_or words' (gate_place i) 0 ≡ total (in_slot i) views + seal_bit (slot_at d' i).phase * 65536 + (slot_at d' i).page * 4294967296) (sym e)
+      (get_or-set_same words (gate_place s) n' 0 (let l = f.long in omega arith) ∙ (made ∙ (λ k. total (in_slot s) views + seal_bit (sym here k).phase * 65536 + (sym here k).page * 4294967296))))
+      (λ ne. still (gate_place t) (λ z. ne (omega arith)) ∙ (f.gates t small ∙ (λ k. total (in_slot t) views + seal_bit (sym (other t ne) k).phase * 65536 + (sym (other t ne) k).page * 4294967296)))
 
   pub opens : PlaneInvariant shape words' (set views id (after_open v s))
   opens = duty_kept shape words words' views id v d' there role f record {
-    long = length-set words (gate_word s) n' ∙ f.long;
+    long = length-set words (gate_place s) n' ∙ f.long;
     current_slot = still 0 (λ z. omega arith) ∙ f.current_slot;
     gates = gates';
     slots = slots';
@@ -192,8 +192,8 @@ module _ (shape : PageShape) (words : List ℕ) (views : List View) (id : ℕ) (
     collected_words = λ page below whole p lt. let e = same_pieces page in let whole' : length (collected_of d page) ≡ width shape = ap length (sym e) ∙ whole in dite (ℕ_discrete page d.next)
         (λ q. let a : length (collected_of d page) ≡ 0 = ap (λ (g : ℕ). length (collected_of d g)) q ∙ no_pieces in let b = pow_pos (shape.n - 6) in absurd (omega arith))
         (λ ne. let old = f.collected_words page (omega arith) whole' p lt in ((λ b. old.0 (ap (λ (l : List ℕ). bit_in l p) (sym e) ∙ b)), (λ y. ap (λ (l : List ℕ). bit_in l p) e ∙ old.1 y)));
-    drained_words = λ t small i. cases (λ q y. q < 4 → i < taken y.phase → get_or words' (bit_word shape q i) 0 ≡ 0) (λ _ lt. absurd (omega arith)) (λ q ne lt k. still (bit_word shape q i) (λ z. omega arith) ∙ f.drained_words q lt i k) t small;
-    free_words = λ t small. cases (λ q y. q < 4 → y.phase ≡ Free → (i : ℕ) → i < width shape → get_or words' (bit_word shape q i) 0 ≡ 0) (λ _ z i lt. cc) (λ q ne lt z i k. still (bit_word shape q i) (λ z'. omega arith) ∙ f.free_words q lt z i k) t small;
+    drained_words = λ t small i. cases (λ q y. q < 4 → i < taken y.phase → get_or words' (bit_place shape q i) 0 ≡ 0) (λ _ lt. absurd (omega arith)) (λ q ne lt k. still (bit_place shape q i) (λ z. omega arith) ∙ f.drained_words q lt i k) t small;
+    free_words = λ t small. cases (λ q y. q < 4 → y.phase ≡ Free → (i : ℕ) → i < width shape → get_or words' (bit_place shape q i) 0 ≡ 0) (λ _ z i lt. cc) (λ q ne lt z i k. still (bit_place shape q i) (λ z'. omega arith) ∙ f.free_words q lt z i k) t small;
     probes = λ i x at. let k = f.probes i x at in record {
       page_below = let a = k.page_below in omega arith;
       at_below = k.at_below;

@@ -9,7 +9,7 @@ use Rattle.std.proofs.lemmas.List.Elements.{All-get_or}
 use mathlib.Core.Option.{some}
 use lib.ListN.{get_elem?}
 use Rattle.spie_base.specs.declared.PageShape.{PageShape}
-use Rattle.gate_core.specs.declared.states.Entry.{Entry}
+use Rattle.spie_base.specs.declared.types.Entry.{Entry}
 use Rattle.gate_core.specs.declared.states.PassState.{PassState}
 use Rattle.gate_core.specs.declared.states.PassState.TheVariants.{Idle, Looked, Inside, Visiting}
 use Rattle.gate_core.specs.declared.states.SlotPhase.{SlotPhase}
@@ -17,15 +17,16 @@ use Rattle.gate_core.specs.declared.states.SlotPhase.TheVariants.{Free, Open, Se
 use Rattle.gate_core.specs.declared.core_data.CoreData.{CoreData}
 use Rattle.bloom_page.specs.Bits.{bit_in, members_of}
 use Rattle.bloom_page.proofs.BitFacts.{Contains-members_of, bit_in-append_front, bit_in-append_back, bit_in-past}
-use Rattle.gate_core.specs.Marks.{width, size, IsAmong}
+use Rattle.gate_core.specs.Marks.{width, size}
+use Rattle.hash_family.specs.Entries.{IsAmong, IsMarked}
 use Rattle.gate_core.specs.Views.{Slot, no_slot, Duties, View, slot_at, collected_of}
-use Rattle.gate_core.specs.Acts.{bit_word}
-use Rattle.gate_core.specs.Invariant.{HasPage, IsLive, live_bit, HasSet, Recorded, Marked, IsCollected, StateFits, PlaneFits}
+use Rattle.gate_core.specs.Acts.{bit_place}
+use Rattle.gate_core.specs.Invariant.{has_page, HasPage, IsLive, live_bit, HasSet, Recorded, Marked, IsCollected, StateFits, PlaneFits}
 use Rattle.gate_core.specs.Core.{items_at, live_words}
 use Rattle.gate_core.specs.Core as core
 use Rattle.gate_core.specs.Kept.{notes_of, view_of, views_of, core_of}
 use Rattle.gate_core.specs.Sound.{IsSound}
-use Rattle.gate_core.specs.PageWords.{has_page, stands_with, page_words, IsMarkOf, HasSetOf, IsSetInside}
+use Rattle.gate_core.specs.PageWords.{stands_with, page_words, HasSetOf, IsSetInside}
 use Rattle.gate_core.proofs.Lists.{at_within, same_at}
 use Rattle.gate_core.proofs.Bits.{position_below}
 use Rattle.gate_core.proofs.Frame.{not_both}
@@ -63,13 +64,13 @@ behind : (shape : PageShape) (words got : List ℕ) (s p : ℕ) → length got �
     → bit_in (got ++ live_words shape words s (length got)) p ≡ cond (nat_lt (p / 64) (length got)) (bit_in got p) (live_bit shape words s p)
 behind shape words got s p few small = let w : ℕ = width shape in let n : ℕ = length got in let at : ℕ = p / 64 in ⊎_elim
     (λ lt. bit_in-append_front got (live_words shape words s n) p (omega arith) ∙ ap (λ (b : Bool). cond b (bit_in got p) (live_bit shape words s p)) (sym (lt-ltb at n lt)))
-    (λ le. let q : ℕ = p - 64 * n in let first : ℕ = bit_word shape s n in let past : ℕ = bit_word shape s w in
+    (λ le. let q : ℕ = p - 64 * n in let first : ℕ = bit_place shape s n in let past : ℕ = bit_place shape s w in
     let place : p ≡ 64 * n + q = omega arith in let whole : q / 64 + n ≡ at = omega arith in let part : q % 64 ≡ p % 64 = omega arith in
     ap (bit_in (got ++ live_words shape words s n)) place
     ∙ bit_in-append_back got (live_words shape words s n) q
     ∙ ap (λ (x : ℕ). x / 2 ^ (q % 64) % 2) (get_or-take (past - first) (drop first words) (q / 64) 0 (let z : at < w = omega arith in omega arith) ∙ get_or-drop first words (q / 64) 0)
-    ∙ ap (λ (i : ℕ). get_or words i 0 / 2 ^ (q % 64) % 2) (let e : first + q / 64 ≡ bit_word shape s at = omega arith in e)
-    ∙ ap (λ (k : ℕ). get_or words (bit_word shape s at) 0 / 2 ^ k % 2) part
+    ∙ ap (λ (i : ℕ). get_or words i 0 / 2 ^ (q % 64) % 2) (let e : first + q / 64 ≡ bit_place shape s at = omega arith in e)
+    ∙ ap (λ (k : ℕ). get_or words (bit_place shape s at) 0 / 2 ^ k % 2) part
     ∙ ap (λ (b : Bool). cond b (bit_in got p) (live_bit shape words s p)) (sym (le-ltb at n le)))
     (cases_lt at n)
 
@@ -102,15 +103,13 @@ module _ (m : CoreData) (sound : IsSound m) where
   viewed_at : (j : ℕ) → j < length m.seats.items → (v : View) × (get_elem? views j ≡ some v)
   viewed_at j lt = let (x, there) = item_at m.seats.items j lt in (view_of (notes_of m) j x.state, viewed m j x there)
 
-  recorded_is : (page p : ℕ) → Recorded shape views page p ↔ IsMarkOf shape page entries p
-  recorded_is page p = let P : Entry → Type 0 = λ e. (e.page.number ≡ page) × IsAmong shape page e.sig shape.k p in (
+  recorded_is : (page p : ℕ) → Recorded shape views page p ↔ IsMarked shape entries page p
+  recorded_is page p = (
     (λ (j, v, at, h).
         let (i, e, there, of, among) = h in
         let (k, stood) = of_actor j finishers entries e (i, subst (λ (l : List Entry). get_elem? l i ≡ some e) (entries_at j v at) there) in
-        any_here P entries k e stood (of, among)),
-    λ h.
-        let (k, e, stood, pe) = any_where P entries h in
-        let (of, among) = pe in
+        (k, e, stood, of, among)),
+    λ (k, e, stood, of, among).
         let lt : k < length finishers = let a = at_within entries k e stood in let b = sound.holds.entries.each in omega arith in
         let (q, by) = item_at finishers k lt in
         let seated : q < length m.seats.items = subst (λ (z : ℕ). z < length m.seats.items) {y = q} (read_item finishers k 0 q by) (All-get_or (λ (z : ℕ). z < length m.seats.items) finishers k 0 lt sound.finishers) in
@@ -124,8 +123,8 @@ module _ (m : CoreData) (sound : IsSound m) where
   mark_small : (page : ℕ) (sig : Rattle.spie_base.specs.declared.Sig.Sig) (k p : ℕ) → IsAmong shape page sig k p → p < size shape
   mark_small page sig k p (i, lt, is) = subst (λ (z : ℕ). z < size shape) is (position_below shape page sig i fit.in_range)
 
-  marked_small : (page p : ℕ) → IsMarkOf shape page entries p → p < size shape
-  marked_small page p h = let (k, e, stood, pe) = any_where (λ (e : Entry). (e.page.number ≡ page) × IsAmong shape page e.sig shape.k p) entries h in mark_small page e.sig shape.k p pe.1
+  marked_small : (page p : ℕ) → IsMarked shape entries page p → p < size shape
+  marked_small page p (k, e, stood, of, among) = mark_small page e.sig shape.k p among
 
   -- ---- the marks that records inside have set
 
@@ -149,7 +148,7 @@ module _ (m : CoreData) (sound : IsSound m) where
     )
     set_in floor (Visiting t gate) k = (λ h. h, λ h. h)
 
-    marked_is : Marked shape views page s p ↔ (IsMarkOf shape page entries p ⊎ IsSetInside shape page views p)
+    marked_is : Marked shape views page s p ↔ (IsMarked shape entries page p ⊎ IsSetInside shape page views p)
     marked_is = let Q : View → Type 0 = λ v. HasSetOf shape page v.state p in (
       (λ (j, v, at, x). ⊎_elim
           (λ h. inl ((recorded_is page p).0 (j, v, at, h)))
@@ -168,7 +167,7 @@ module _ (m : CoreData) (sound : IsSound m) where
   inside_small : (page p : ℕ) → IsSetInside shape page views p → p < size shape
   inside_small page p h = let (j, v, at, q) = any_where (λ (v : View). HasSetOf shape page v.state p) views h in set_small page p v.state q
 
-  any_small : (page p : ℕ) → IsMarkOf shape page entries p ⊎ IsSetInside shape page views p → p < size shape
+  any_small : (page p : ℕ) → IsMarked shape entries page p ⊎ IsSetInside shape page views p → p < size shape
   any_small page p h = ⊎_elim (marked_small page p) (inside_small page p) h
 
   -- nobody is inside a page that stands nowhere
@@ -184,10 +183,10 @@ module _ (m : CoreData) (sound : IsSound m) where
   -- ---- a page's words
 
   abbrev Told : List ℕ → (page p : ℕ) → Type 0
-  Told ws page p = Contains (members_of ws) p ↔ (IsMarkOf shape page entries p ⊎ IsSetInside shape page views p)
+  Told ws page p = Contains (members_of ws) p ↔ (IsMarked shape entries page p ⊎ IsSetInside shape page views p)
 
   -- bits that are told for the positions of a page are told for all
-  all_told : (ws : List ℕ) (page p : ℕ) → length ws ≤ width shape → (p < size shape → (bit_in ws p ≡ 1) ↔ (IsMarkOf shape page entries p ⊎ IsSetInside shape page views p)) → Told ws page p
+  all_told : (ws : List ℕ) (page p : ℕ) → length ws ≤ width shape → (p < size shape → (bit_in ws p ≡ 1) ↔ (IsMarked shape entries page p ⊎ IsSetInside shape page views p)) → Told ws page p
   all_told ws page p few told = let member = Contains-members_of ws p in (
     (λ h. let one = member.0 h in ⊎_elim
         (λ small. (told small).0 one)
@@ -201,11 +200,11 @@ module _ (m : CoreData) (sound : IsSound m) where
       let live : List ℕ = live_words shape m.words.items s (length ws) in
       let n : ℕ = length ws in
       let some : n ≤ width shape = let a = fit.slots.taken_words s near stands in let b = fit.slots.taken_short s near in let c : length (collected_of d (slot_at d s).page) ≡ n = ap (λ (q : ℕ). length (collected_of d q)) is in omega arith in
-      let few : length (ws ++ live) ≤ width shape = let a = length-append ws live in let b = length-take (bit_word shape s (width shape) - bit_word shape s n) (drop (bit_word shape s n) m.words.items) in omega arith in
+      let few : length (ws ++ live) ≤ width shape = let a = length-append ws live in let b = length-take (bit_place shape s (width shape) - bit_place shape s n) (drop (bit_place shape s n) m.words.items) in omega arith in
       all_told (ws ++ live) page p few (λ small.
       let bit = behind shape m.words.items ws s p some small ∙ ap (λ (q : ℕ). cond (nat_lt (p / 64) (length (collected_of d q))) (bit_in (collected_of d q) p) (live_bit shape m.words.items s p)) (sym is) in
       let told = fit.slot_words s near stands p small in
-      let marked = subst (λ (q : ℕ). Marked shape views q s p ↔ (IsMarkOf shape page entries p ⊎ IsSetInside shape page views p)) (sym is) (marked_is s near stands page is p) in
+      let marked = subst (λ (q : ℕ). Marked shape views q s p ↔ (IsMarked shape entries page p ⊎ IsSetInside shape page views p)) (sym is) (marked_is s near stands page is p) in
       ((λ one. marked.0 (told.0 (sym bit ∙ one))), λ h. bit ∙ told.1 (marked.1 h)))
 
   nowhere_told : (page p : ℕ) → ((s : ℕ) → s < 4 → HasPage (slot_at d s).phase → (slot_at d s).page ≡ page → ⊥) → Told (collected_of d page) page p
@@ -243,10 +242,10 @@ module _ (m : CoreData) (sound : IsSound m) where
       (first_passing (stands_with page) m.desk.slots no_slot)
 
   -- nobody is inside a page that is collected
-  pub collected_are : (page p : ℕ) → IsCollected shape (core.duties_of (core_of m)) page → Contains (members_of (collected_of (core.duties_of (core_of m)) page)) p ↔ IsMarkOf shape page entries p
+  pub collected_are : (page p : ℕ) → IsCollected shape (core.duties_of (core_of m)) page → Contains (members_of (collected_of (core.duties_of (core_of m)) page)) p ↔ IsMarked shape entries page p
   collected_are page p whole =
       let e : core.duties_of (core_of m) ≡ d = duties_is m sound.holds in
       let none : (s : ℕ) → s < 4 → HasPage (slot_at d s).phase → (slot_at d s).page ≡ page → ⊥ = λ s near stands is. not_both shape d s page fit.slots near stands is (subst (λ (x : Duties). IsCollected shape x page) e whole) in
       let told = nowhere_told page p none in
-      subst (λ (x : Duties). Contains (members_of (collected_of x page)) p ↔ IsMarkOf shape page entries p) (sym e)
+      subst (λ (x : Duties). Contains (members_of (collected_of x page)) p ↔ IsMarked shape entries page p) (sym e)
       ((λ h. ⊎_elim (λ y. y) (λ y. absurd (none_inside page p none y)) (told.0 h)), λ h. told.1 (inl h))

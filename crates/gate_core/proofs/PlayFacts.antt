@@ -1,11 +1,12 @@
 -- A list of steps.
-use Rattle.std.proofs.Common.{◌≡◌, ℕ, ◌+◌, ◌^◌, ◌<◌, ◌≤◌, Bool, true, false, ◌&&◌, nat_lt, cond, List, [], ◌∷◌, ◌++◌, length, get_or, take, map, count_by, sym, refl, ap, ◌∙◌, subst, ⊎_elim, arith, append_assoc, max}
-use Rattle.std.proofs.lemmas.Bool.{cases_lt, le-ltb}
+use Rattle.std.proofs.Common.{◌≡◌, ℕ, ◌+◌, ◌^◌, ◌<◌, ◌≤◌, true, ◌&&◌, cond, List, [], ◌∷◌, ◌++◌, length, get_or, take, map, count_by, sym, refl, ap, ◌∙◌, subst, arith, append_assoc, max}
 use Rattle.std.specs.List.{range_with_len, list_all}
 use Rattle.std.proofs.lemmas.List.{append-nil, take_more}
 use Rattle.std.proofs.lemmas.List.Sums.{sum_by_more, sum_by-take-le, AllPass-from_list_all}
 use Rattle.std.proofs.lemmas.List.FromFn.{length-map-range_with_len}
 use Rattle.spie_base.specs.declared.PageShape.{PageShape}
+use Rattle.spie_base.proofs.Booleans.{both_held}
+use Rattle.spie_base.proofs.Bounds.{is_past}
 use Rattle.gate_core.specs.declared.steps.Actor.{Actor}
 use Rattle.gate_core.specs.declared.steps.Actor.TheVariants as actor
 use Rattle.gate_core.specs.declared.steps.Act.{Act}
@@ -13,12 +14,11 @@ use Rattle.gate_core.specs.declared.steps.Act.TheVariants.{Look, Enter, Set, Lea
 use Rattle.gate_core.specs.declared.steps.Act.TheVariants as act
 use Rattle.gate_core.specs.declared.steps.Step.{Step}
 use Rattle.gate_core.specs.declared.steps.StepAnswer.{StepAnswer}
-use Rattle.gate_core.specs.declared.states.Entry.{Entry}
-use Rattle.gate_core.specs.Marks.{size}
+use Rattle.spie_base.specs.declared.types.Entry.{Entry}
 use Rattle.gate_core.specs.Views.{Duties}
-use Rattle.gate_core.specs.Core.{Core, place_of, duties_of, Stepped, ActsAlone, IsStepOf, PageFits, CanStep}
+use Rattle.gate_core.specs.Core.{Core, place_of, duties_of, Stepped, may_do, is_within, PageFits, CanStep}
 use Rattle.gate_core.specs.Start.{pass_view, start_of}
-use Rattle.gate_core.specs.Play.{is_keeper_actor, is_actor, is_act_of, is_step, is_open, opens_page, IsPlayed}
+use Rattle.gate_core.specs.Play.{is_actor, is_step, is_open, opens_page, IsPlayed}
 use Rattle.gate_core.proofs.StepFacts.{entries_grow, one_step, shape_stays, actors_stay, room_falls, next_grows}
 
 -- ---- a step more
@@ -59,35 +59,9 @@ one_end c (s ∷ ss) x y (r ∷ rs) (q ∷ qs) h k =
 
 -- ---- the test of a step
 
-both_of : (a b : Bool) → (a && b) ≡ true → (a ≡ true) × (b ≡ true)
-both_of true b e = (refl, e)
-both_of false b e = cc
-
-alone : (who : Actor) → is_keeper_actor who ≡ true → ActsAlone who
-alone actor.Keeper e = tt
-alone (actor.Pass number) e = cc
-
-less : (m n : ℕ) → nat_lt m n ≡ true → m < n
-less m n e = ⊎_elim (λ lt. lt) (λ le. let f = le-ltb m n le in cc) (cases_lt m n)
-
-is_act-IsStepOf : (shape : PageShape) (who : Actor) (a : Act) → is_act_of shape who a ≡ true → IsStepOf shape who a
-is_act-IsStepOf shape who Look e = tt
-is_act-IsStepOf shape who (Enter sig) e = tt
-is_act-IsStepOf shape who Set e = tt
-is_act-IsStepOf shape who Leave e = tt
-is_act-IsStepOf shape who Seal e = alone who e
-is_act-IsStepOf shape who (Settle s) e = let k = both_of (is_keeper_actor who) (nat_lt s 4) e in (alone who k.0, less s 4 k.1)
-is_act-IsStepOf shape who (Drain s) e = let k = both_of (is_keeper_actor who) (nat_lt s 4) e in (alone who k.0, less s 4 k.1)
-is_act-IsStepOf shape who (act.Open s) e = let k = both_of (is_keeper_actor who) (nat_lt s 4) e in (alone who k.0, less s 4 k.1)
-is_act-IsStepOf shape who Point e = alone who e
-is_act-IsStepOf shape who (Probe s p) e =
-    let k = both_of (is_keeper_actor who) (nat_lt s 4 && nat_lt p (size shape)) e in
-    let l = both_of (nat_lt s 4) (nat_lt p (size shape)) k.1 in
-    (alone who k.0, less s 4 l.0, less p (size shape) l.1)
-
 actor_there : (passes : ℕ) (who : Actor) → is_actor passes who ≡ true → place_of who < passes + 1
 actor_there passes actor.Keeper e = omega arith
-actor_there passes (actor.Pass number) e = let a = less number passes e in omega arith
+actor_there passes (actor.Pass number) e = let a = is_past number passes e in omega arith
 
 fits_if : (a : Act) (d : Duties) → d.next + cond (is_open a) 1 0 < 2 ^ 32 → PageFits a d
 fits_if Look d h = tt
@@ -104,9 +78,11 @@ fits_if (Probe s p) d h = tt
 -- a step that passes the test can be done, where there are so many actors and the next page fits
 pub can_step : (c : Core) (passes : ℕ) (step : Step) → is_step c.shape passes step ≡ true → length c.views ≡ passes + 1 → (duties_of c).next + cond (opens_page step) 1 0 < 2 ^ 32 → CanStep c step
 can_step c passes step passed many fits =
-    let k = both_of (is_actor passes step.actor) (is_act_of c.shape step.actor step.act) passed in record {
+    let k = both_held (is_actor passes step.actor) (may_do step.actor step.act && is_within c.shape step.act) passed in
+    let l = both_held (may_do step.actor step.act) (is_within c.shape step.act) k.1 in record {
       actor = let a = actor_there passes step.actor k.0 in omega arith;
-      exists = is_act-IsStepOf c.shape step.actor step.act k.1;
+      may = l.0;
+      within = l.1;
       fits = fits_if step.act (duties_of c) fits;
     }
 

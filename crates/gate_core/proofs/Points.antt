@@ -1,5 +1,7 @@
 -- `point` and `probe` keep the plane invariant.
-use Rattle.std.proofs.Common.{◌≡◌, ℕ, ◌/◌, ◌%◌, ◌^◌, ◌<◌, ◌≤◌, true, List, [], ◌∷◌, ◌++◌, length, get_or, set, sym, refl, ◌∙◌, subst, inl, inr, ⊎_elim, arith, le_refl, length-set, get_or-set_same, get_or-set_other}
+use Rattle.std.proofs.Common.{◌≡◌, ℕ, ◌/◌, ◌%◌, ◌<◌, ◌≤◌, ◌==◌, true, List, [], ◌∷◌, ◌++◌, length, get_or, set, sym, refl, ◌∙◌, subst, inl, inr, ⊎_elim, arith, le_refl, length-set, get_or-set_same, get_or-set_other}
+use Rattle.std.specs.Int.{bit_at}
+use Rattle.std.proofs.lemmas.Bool.{eqb-true, eq-eqb, false≢true}
 use Rattle.std.proofs.lemmas.List.{set-get_or}
 use mathlib.Core.Option.{some}
 use lib.ListN.{get_elem?}
@@ -10,7 +12,7 @@ use Rattle.gate_core.specs.declared.states.SlotPhase.{SlotPhase}
 use Rattle.gate_core.specs.declared.states.SlotPhase.TheVariants.{Free, Open, Sealed, Quiet}
 use Rattle.gate_core.specs.Marks.{size}
 use Rattle.gate_core.specs.Views.{Probed, Keeper, Duties, View, slot_at}
-use Rattle.gate_core.specs.Acts.{gate_word, bit_word, open_slot, with_duties, after_probe, CanProbe}
+use Rattle.gate_core.specs.Acts.{gate_place, bit_place, open_slot, with_duties, after_probe, CanProbe}
 use Rattle.gate_core.specs.Invariant.{HasPage, taken, page_bit, StateFits, SlotsFit, ActorFits, ProbeFits, PlaneFits, PlaneInvariant}
 use Rattle.gate_core.proofs.Lists.{at_snoc}
 use Rattle.gate_core.proofs.Frame.{page_bit_same}
@@ -77,19 +79,19 @@ module _ (shape : PageShape) (words : List ℕ) (views : List View) (id : ℕ) (
     other i big = get_or-set_other words 0 i s 0 (λ e. omega arith)
 
     bit_same : (t p : ℕ) → page_bit shape (set words 0 s) d' t p ≡ page_bit shape words d t p
-    bit_same t p = page_bit_same shape words (set words 0 s) d t p (other (bit_word shape t (p / 64)) (omega arith))
+    bit_same t p = page_bit_same shape words (set words 0 s) d t p (other (bit_place shape t (p / 64)) (omega arith))
 
     pub points : PlaneInvariant shape (set words 0 s) (set views id (with_duties v d'))
     points = duty_kept shape words (set words 0 s) views id v d' there role f record {
       long = length-set words 0 s ∙ f.long;
       current_slot = get_or-set_same words 0 s 0 (let a = f.long in omega arith);
-      gates = λ t near. other (gate_word t) (omega arith) ∙ f.gates t near;
+      gates = λ t near. other (gate_place t) (omega arith) ∙ f.gates t near;
       slots = slots';
       actors = λ j u at. actor' u (f.actors j u at);
       slot_words = λ t near stands p small. let same : page_bit shape (set words 0 s) d' t p ≡ page_bit shape words d t p = bit_same t p in let old = f.slot_words t near stands p small in ((λ b. old.0 (sym same ∙ b)), (λ m. same ∙ old.1 m));
       collected_words = f.collected_words;
-      drained_words = λ t near i lt. other (bit_word shape t i) (omega arith) ∙ f.drained_words t near i lt;
-      free_words = λ t near free i lt. other (bit_word shape t i) (omega arith) ∙ f.free_words t near free i lt;
+      drained_words = λ t near i lt. other (bit_place shape t i) (omega arith) ∙ f.drained_words t near i lt;
+      free_words = λ t near free i lt. other (bit_place shape t i) (omega arith) ∙ f.free_words t near free i lt;
       probes = λ i x at. let k = f.probes i x at in record {
         page_below = k.page_below;
         at_below = k.at_below;
@@ -105,7 +107,7 @@ module _ (shape : PageShape) (words : List ℕ) (views : List View) (id : ℕ) (
 
   module _ (s p : ℕ) (near : s < 4) (below : p < size shape) (can : CanProbe (slot_at d s).phase) where
     abbrev n : ℕ
-    n = get_or words (bit_word shape s (p / 64)) 0
+    n = get_or words (bit_place shape s (p / 64)) 0
 
     probe_stands : (ph : SlotPhase) → CanProbe ph → HasPage ph × (taken ph ≡ 0)
     probe_stands Free c = absurd c
@@ -114,7 +116,7 @@ module _ (shape : PageShape) (words : List ℕ) (views : List View) (id : ℕ) (
     probe_stands (Quiet next) c = (tt, c)
 
     abbrev seen : Probed
-    seen = record { page = (slot_at d s).page; at = p; bit = n / 2 ^ (p % 64) % 2; known = length v.entries }
+    seen = record { page = (slot_at d s).page; at = p; bit = bit_at n (p % 64) == 1; known = length v.entries }
 
     abbrev e' : Duties
     e' = record d { probes = d.probes ++ seen ∷ [] }
@@ -155,7 +157,7 @@ module _ (shape : PageShape) (words : List ℕ) (views : List View) (id : ℕ) (
       gone = k.gone;
     }
 
-    is_bit : page_bit shape words d s p ≡ n / 2 ^ (p % 64) % 2
+    is_bit : page_bit shape words d s p ≡ bit_at n (p % 64)
     is_bit = let k = probe_stands (slot_at d s).phase can in page_bit_none shape words d s p (f.slots.taken_words s near k.0 ∙ k.1)
 
     fit : ProbeFits shape words e' v.entries seen
@@ -163,8 +165,8 @@ module _ (shape : PageShape) (words : List ℕ) (views : List View) (id : ℕ) (
       page_below = f.slots.used_below s near (f.slots.stands_used s near k.0);
       at_below = below;
       known = le_refl (length v.entries);
-      seen = λ one. inr (s, near, k.0, refl, is_bit ∙ one);
-      unseen = λ none i e lt at of among. let one = (f.slot_words s near k.0 p below).1 (id, v, there, inl (i, e, at, of, among)) in let zero : page_bit shape words d s p ≡ 0 = is_bit ∙ none in absurd (omega arith);
+      seen = λ one. inr (s, near, k.0, refl, is_bit ∙ eqb-true (bit_at n (p % 64)) 1 one);
+      unseen = λ none i e lt at of among. let one = (f.slot_words s near k.0 p below).1 (id, v, there, inl (i, e, at, of, among)) in absurd (false≢true (sym none ∙ eq-eqb (bit_at n (p % 64)) 1 (sym is_bit ∙ one)));
     }
 
     probes_here : PlaneInvariant shape words (set views id (with_duties v e'))
@@ -183,5 +185,5 @@ module _ (shape : PageShape) (words : List ℕ) (views : List View) (id : ℕ) (
       out = refl;
     }
 
-    pub probes : PlaneInvariant shape (set words (bit_word shape s (p / 64)) n) (set views id (after_probe v s p n))
-    probes = subst (λ (ws : List ℕ). PlaneInvariant shape ws (set views id (after_probe v s p n))) (sym (set-get_or words (bit_word shape s (p / 64)) 0)) probes_here
+    pub probes : PlaneInvariant shape (set words (bit_place shape s (p / 64)) n) (set views id (after_probe v s p n))
+    probes = subst (λ (ws : List ℕ). PlaneInvariant shape ws (set views id (after_probe v s p n))) (sym (set-get_or words (bit_place shape s (p / 64)) 0)) probes_here

@@ -5,7 +5,7 @@ use Rattle.spie_base.specs.declared.Sig.{Sig}
 use Rattle.spie_base.specs.declared.PageNo.{PageNo}
 use Rattle.spie_base.specs.declared.PageShape.{PageShape}
 use Rattle.hash_family.specs.Positions.{position, family_of, placed_by}
-use Rattle.gate_core.specs.declared.states.Entry.{Entry}
+use Rattle.spie_base.specs.declared.types.Entry.{Entry}
 use Rattle.gate_core.specs.declared.states.PassState.{PassState}
 use Rattle.gate_core.specs.declared.states.PassState.TheVariants.{Idle, Looked, Inside, Visiting}
 use Rattle.gate_core.specs.declared.steps.Act.TheVariants.{Look, Enter, Set, Leave}
@@ -13,7 +13,7 @@ use Rattle.gate_core.specs.declared.steps.StepAnswer.{StepAnswer}
 use Rattle.gate_core.specs.declared.steps.StepAnswer.TheVariants as answer
 use Rattle.gate_core.specs.declared.core_data.CoreData.{CoreData}
 use Rattle.gate_core.specs.Views.{Visit, View}
-use Rattle.gate_core.specs.Acts.{seal_of, page_of, numbered, gate_word, bit_word, moved_to, after_enter, CanLook, HasLooked, CanSet, CanLeave}
+use Rattle.gate_core.specs.Acts.{seal_of, page_of, numbered, gate_place, bit_place, moved_to, after_enter, CanLook, HasLooked, CanSet, CanLeave}
 use Rattle.gate_core.specs.Core.{answer_of}
 use Rattle.gate_core.specs.Kept.{notes_of, view_of, Holds, DoesAct}
 use Rattle.gate_core.specs.Writes.{seat_at, Grows, Writes}
@@ -76,23 +76,23 @@ module _ (m m' : CoreData) (place : ℕ) (holds : Holds m) (within : place < len
       record_does m m' 0 n place st (record (seat_at m place) { state = Looked slot }) [] [] holds within (sym is) writes (stays m.entries m'.entries place entries) (stays m.visits m'.visits place visits)
       Look (answer.Slot slot) spare can refl refl refl (bare v (Looked slot) ∙ ap (λ (k : ℕ). moved_to v (Looked k)) read) tt (omega arith) (omega arith) (ap answer.Slot read)
 
-  module _ (slot : ℕ) (is : Looked slot ≡ (seat_at m place).state) (gate : ℕ) (read : gate ≡ get_or m.words.items (gate_word slot) 0) (sig : Sig) where
+  module _ (slot : ℕ) (is : Looked slot ≡ (seat_at m place).state) (gate : ℕ) (read : gate ≡ get_or m.words.items (gate_place slot) 0) (sig : Sig) where
     abbrev v : View
     v = view_of (notes_of m) place (Looked slot)
 
-    pub entered_visit : seal_of gate ≡ 1 → Writes m m' (gate_word slot) ((gate + 1) % 2 ^ 64) place (record (seat_at m place) { state = Visiting slot gate }) → m'.entries ≡ m.entries
+    pub entered_visit : seal_of gate ≡ 1 → Writes m m' (gate_place slot) ((gate + 1) % 2 ^ 64) place (record (seat_at m place) { state = Visiting slot gate }) → m'.entries ≡ m.entries
         → Grows m.visits m'.visits place (record { slot = slot; gate = gate } ∷ []) → DoesAct m m' place (Enter sig) (answer.Visiting gate)
     entered_visit sealed writes entries visits =
-        record_does m m' (gate_word slot) ((gate + 1) % 2 ^ 64) place (Looked slot) (record (seat_at m place) { state = Visiting slot gate }) [] (record { slot = slot; gate = gate } ∷ [])
+        record_does m m' (gate_place slot) ((gate + 1) % 2 ^ 64) place (Looked slot) (record (seat_at m place) { state = Visiting slot gate }) [] (record { slot = slot; gate = gate } ∷ [])
         holds within (sym is) writes (stays m.entries m'.entries place entries) visits (Enter sig) (answer.Visiting gate) spare tt refl refl
         (ap (λ (n : ℕ). (n + 1) % 2 ^ 64) read) (visited v slot gate sig sealed ∙ ap (λ (n : ℕ). after_enter v slot sig n) read) tt (omega arith) (omega arith)
         (sym (ap (λ (b : ℕ). cond (b == 0) (answer.Entered (numbered (page_of gate))) (answer.Visiting gate)) sealed) ∙ ap (λ (n : ℕ). answer_of m.shape (Enter sig) v n) read)
 
     pub entered_inside : seal_of gate ≡ 0
-        → Writes m m' (gate_word slot) ((gate + 1) % 2 ^ 64) place (record { state = Inside slot (numbered (page_of gate)) sig 0; marks = placed_by (family_of m.shape (page_of gate)) sig })
+        → Writes m m' (gate_place slot) ((gate + 1) % 2 ^ 64) place (record { state = Inside slot (numbered (page_of gate)) sig 0; marks = placed_by (family_of m.shape (page_of gate)) sig })
         → m'.entries ≡ m.entries → m'.visits ≡ m.visits → DoesAct m m' place (Enter sig) (answer.Entered (numbered (page_of gate)))
     entered_inside unsealed writes entries visits =
-        record_does m m' (gate_word slot) ((gate + 1) % 2 ^ 64) place (Looked slot) (record { state = Inside slot (numbered (page_of gate)) sig 0; marks = placed_by (family_of m.shape (page_of gate)) sig }) [] []
+        record_does m m' (gate_place slot) ((gate + 1) % 2 ^ 64) place (Looked slot) (record { state = Inside slot (numbered (page_of gate)) sig 0; marks = placed_by (family_of m.shape (page_of gate)) sig }) [] []
         holds within (sym is) writes (stays m.entries m'.entries place entries) (stays m.visits m'.visits place visits) (Enter sig) (answer.Entered (numbered (page_of gate))) spare tt refl refl
         (ap (λ (n : ℕ). (n + 1) % 2 ^ 64) read) (went_in v slot gate sig unsealed ∙ ap (λ (n : ℕ). after_enter v slot sig n) read) refl (omega arith) (omega arith)
         (sym (ap (λ (b : ℕ). cond (b == 0) (answer.Entered (numbered (page_of gate))) (answer.Visiting gate)) unsealed) ∙ ap (λ (n : ℕ). answer_of m.shape (Enter sig) v n) read)
@@ -101,25 +101,25 @@ module _ (m m' : CoreData) (place : ℕ) (holds : Holds m) (within : place < len
     abbrev u : View
     u = view_of (notes_of m) place (Inside slot page sig k)
 
-    pub mark_set : k < m.shape.k → (mark at word : ℕ) → mark ≡ position m.shape page.number sig k → at ≡ bit_word m.shape slot (mark / 64) → word ≡ bit_or (get_or m.words.items at 0) (2 ^ (mark % 64))
+    pub mark_set : k < m.shape.k → (mark at word : ℕ) → mark ≡ position m.shape page.number sig k → at ≡ bit_place m.shape slot (mark / 64) → word ≡ bit_or (get_or m.words.items at 0) (2 ^ (mark % 64))
         → Writes m m' at word place (record (seat_at m place) { state = Inside slot page sig (k + 1) }) → m'.entries ≡ m.entries → m'.visits ≡ m.visits → DoesAct m m' place Set answer.Set
     mark_set below mark at word mark_is at_is word_is writes entries visits =
         record_does m m' at word place (Inside slot page sig k) (record (seat_at m place) { state = Inside slot page sig (k + 1) }) [] []
         holds within (sym is) writes (stays m.entries m'.entries place entries) (stays m.visits m'.visits place visits) Set answer.Set spare below refl
-        (at_is ∙ ap (λ (p : ℕ). bit_word m.shape slot (p / 64)) mark_is) (word_is ∙ ap (λ (p : ℕ). bit_or (get_or m.words.items at 0) (2 ^ (p % 64))) mark_is)
+        (at_is ∙ ap (λ (p : ℕ). bit_place m.shape slot (p / 64)) mark_is) (word_is ∙ ap (λ (p : ℕ). bit_or (get_or m.words.items at 0) (2 ^ (p % 64))) mark_is)
         (bare u (Inside slot page sig (k + 1))) (marks_fit m holds place within (Inside slot page sig k) is) (omega arith) (omega arith) refl
 
-    pub finished_left : k ≡ m.shape.k → Writes m m' (gate_word slot) ((get_or m.words.items (gate_word slot) 0 + (2 ^ 64 - 1)) % 2 ^ 64) place (record (seat_at m place) { state = Idle })
+    pub finished_left : k ≡ m.shape.k → Writes m m' (gate_place slot) ((get_or m.words.items (gate_place slot) 0 + (2 ^ 64 - 1)) % 2 ^ 64) place (record (seat_at m place) { state = Idle })
         → Grows m.entries m'.entries place (record { page = page; sig = sig } ∷ []) → m'.visits ≡ m.visits → (reply : StepAnswer) → reply ≡ answer.Left → DoesAct m m' place Leave reply
     finished_left whole writes entries visits reply left =
-        record_does m m' (gate_word slot) ((get_or m.words.items (gate_word slot) 0 + (2 ^ 64 - 1)) % 2 ^ 64) place (Inside slot page sig k) (record (seat_at m place) { state = Idle }) (record { page = page; sig = sig } ∷ []) []
+        record_does m m' (gate_place slot) ((get_or m.words.items (gate_place slot) 0 + (2 ^ 64 - 1)) % 2 ^ 64) place (Inside slot page sig k) (record (seat_at m place) { state = Idle }) (record { page = page; sig = sig } ∷ []) []
         holds within (sym is) writes entries (stays m.visits m'.visits place visits) Leave reply spare whole refl refl refl
         (finished_view u (record { page = page; sig = sig })) tt (omega arith) (omega arith) left
 
   pub visit_left : (slot gate : ℕ) → Visiting slot gate ≡ (seat_at m place).state
-      → Writes m m' (gate_word slot) ((get_or m.words.items (gate_word slot) 0 + (2 ^ 64 - 1)) % 2 ^ 64) place (record (seat_at m place) { state = Idle })
+      → Writes m m' (gate_place slot) ((get_or m.words.items (gate_place slot) 0 + (2 ^ 64 - 1)) % 2 ^ 64) place (record (seat_at m place) { state = Idle })
       → m'.entries ≡ m.entries → m'.visits ≡ m.visits → (reply : StepAnswer) → reply ≡ answer.Left → DoesAct m m' place Leave reply
   visit_left slot gate is writes entries visits reply left =
-      record_does m m' (gate_word slot) ((get_or m.words.items (gate_word slot) 0 + (2 ^ 64 - 1)) % 2 ^ 64) place (Visiting slot gate) (record (seat_at m place) { state = Idle }) [] []
+      record_does m m' (gate_place slot) ((get_or m.words.items (gate_place slot) 0 + (2 ^ 64 - 1)) % 2 ^ 64) place (Visiting slot gate) (record (seat_at m place) { state = Idle }) [] []
       holds within (sym is) writes (stays m.entries m'.entries place entries) (stays m.visits m'.visits place visits) Leave reply spare tt refl refl refl
       (bare (view_of (notes_of m) place (Visiting slot gate)) Idle) tt (omega arith) (omega arith) left

@@ -15,12 +15,11 @@ use Rattle.gate_core.specs.declared.core_data.CoreData.{CoreData}
 use Rattle.gate_core.specs.declared.core_data.Seat.{Seat}
 use Rattle.gate_core.specs.Marks.{width, size}
 use Rattle.gate_core.specs.Views.{Duties, View, slot_at}
-use Rattle.gate_core.specs.Acts.{page_of, gate_word, bit_word}
+use Rattle.gate_core.specs.Acts.{page_of, gate_place, bit_place}
 use Rattle.gate_core.specs.Invariant.{total, in_slot, seal_bit, StateFits, PlaneFits}
 use Rattle.gate_core.specs.Kept.{notes_of, duties_of, view_of, views_of, HasMarks, Holds}
 use Rattle.gate_core.specs.Writes.{no_seat, seat_at}
-use Rattle.gate_core.proofs.Duty.{the_keeper}
-use Rattle.gate_core.proofs.Seals.{own}
+use Rattle.gate_core.proofs.Duty.{keeper_fits}
 use Rattle.gate_core.proofs.Keeps.{crowd}
 use Rattle.gate_core.proofs.Gates.{gate_page, sealed_two}
 use Rattle.gate_core.proofs.Bits.{position_below}
@@ -36,27 +35,27 @@ module _ (m : CoreData) (holds : Holds m) where
 
   pub plane : PlaneFits m.shape m.words.items (views_of m) d keeper.entries
   plane = let there = viewed m 0 (seat_at m 0) (there_at m.seats.items 0 no_seat (let h : 1 ≤ length m.seats.items = holds.some_seat in omega arith)) in
-      own m.shape m.words.items (views_of m) holds.plane keeper (the_keeper m.shape m.words.items (views_of m) holds.plane 0 keeper there refl)
+      keeper_fits m.shape m.words.items (views_of m) holds.plane 0 keeper there refl
 
   pub few_places : (place : ℕ) → place < length m.seats.items → place < 256
   few_places place within = let f : length m.seats.items - 1 ≤ 16 = plane.few in omega arith
 
-  pub gate_within : (s : ℕ) → s < 4 → gate_word s < length m.words.items
+  pub gate_within : (s : ℕ) → s < 4 → gate_place s < length m.words.items
   gate_within s near = let w : ℕ = width m.shape in let l : length m.words.items ≡ 5 + 4 * w = plane.long in omega arith
 
-  pub bit_within : (s i : ℕ) → s < 4 → i < width m.shape → bit_word m.shape s i < length m.words.items
+  pub bit_within : (s i : ℕ) → s < 4 → i < width m.shape → bit_place m.shape s i < length m.words.items
   bit_within s i near below =
       let w : ℕ = width m.shape in let l : length m.words.items ≡ 5 + 4 * w = plane.long in let x : ℕ = s * w in
       let b : x ≤ 3 * w = mul-le-mul_right w (let g : s ≤ 3 = omega arith in g) in let i' : i < w = below in omega arith
 
-  pub gate_of_page : (s : ℕ) → s < 4 → page_of (get_or m.words.items (gate_word s) 0) ≡ (slot_at d s).page
+  pub gate_of_page : (s : ℕ) → s < 4 → page_of (get_or m.words.items (gate_place s) 0) ≡ (slot_at d s).page
   gate_of_page s near =
       let crowd' : total (in_slot s) (views_of m) ≤ 17 = crowd m.shape m.words.items (views_of m) d keeper.entries plane s in
-      gate_page (total (in_slot s) (views_of m)) (seal_bit (slot_at d s).phase) (slot_at d s).page (get_or m.words.items (gate_word s) 0)
+      gate_page (total (in_slot s) (views_of m)) (seal_bit (slot_at d s).phase) (slot_at d s).page (get_or m.words.items (gate_place s) 0)
       (let g : total (in_slot s) (views_of m) < 65536 = omega arith in g) (sealed_two (slot_at d s).phase) (plane.gates s near)
 
   -- the hash functions of the page that the gate names
-  pub family_there : (s : ℕ) → s < 4 → slice_get m.desk.families s ≡ Some (family_of m.shape (page_of (get_or m.words.items (gate_word s) 0)))
+  pub family_there : (s : ℕ) → s < 4 → slice_get m.desk.families s ≡ Some (family_of m.shape (page_of (get_or m.words.items (gate_place s) 0)))
   family_there s near = holds.families s near ∙ ap (λ (page : ℕ). Some (family_of m.shape page)) (sym (gate_of_page s near))
 
   module _ (place : ℕ) (within : place < length m.seats.items) (st : PassState) (is : st ≡ (seat_at m place).state) where
@@ -96,5 +95,5 @@ module _ (m : CoreData) (holds : Holds m) (place : ℕ) (within : place < length
           let w : ℕ = width m.shape in let n : ℕ = get_or x.marks.at i 0 in let e : n ≡ position m.shape page.number sig k = next_mark in let b : position m.shape page.number sig k < 64 * w = p in
           let g : n / 64 < w = omega arith in g
 
-      pub next_within : bit_word m.shape slot (get_or x.marks.at i 0 / 64) < length m.words.items
+      pub next_within : bit_place m.shape slot (get_or x.marks.at i 0 / 64) < length m.words.items
       next_within = bit_within m holds slot (get_or x.marks.at i 0 / 64) inside_near next_word_within

@@ -6,8 +6,7 @@ use Rattle.spie_base.specs.declared.PageShape.{PageShape}
 use Rattle.gate_core.specs.Views.{Pass, Keeper, blank}
 use Rattle.gate_core.specs.Invariant.{PlaneFits, IsFresh}
 use Rattle.gate_core.specs.Moves.{Plane, MeetsInvariant, first_plane, Move, acts, deals, gathers, view_at, CanMove, after_move, IsRun}
-use Rattle.gate_core.proofs.Duty.{the_keeper}
-use Rattle.gate_core.proofs.Seals.{own}
+use Rattle.gate_core.proofs.Duty.{keeper_fits}
 use Rattle.gate_core.proofs.Deals.{splits, joins}
 use Rattle.gate_core.proofs.Every.{keeps}
 use Rattle.gate_core.proofs.Starts.{starts}
@@ -21,7 +20,7 @@ at_place (x ∷ xs) (suc i) d lt = at_place xs i d (omega arith)
 module _ (shape : PageShape) where
   -- the plane invariant for the view at a place where the keeper is
   rule_at : (plane : Plane) (r : MeetsInvariant shape plane) (k : ℕ) → k < length plane.views → (view_at plane k).role ≡ Keeper → PlaneFits shape plane.words plane.views (view_at plane k).duties (view_at plane k).entries
-  rule_at plane r k within role = own shape plane.words plane.views r (view_at plane k) (the_keeper shape plane.words plane.views r k (view_at plane k) (at_place plane.views k blank within) role)
+  rule_at plane r k within role = keeper_fits shape plane.words plane.views r k (view_at plane k) (at_place plane.views k blank within) role
 
   pub move_keeps : (plane : Plane) → MeetsInvariant shape plane → (m : Move) → CanMove shape plane m → MeetsInvariant shape (after_move shape plane m)
   move_keeps plane r (acts i a) can = keeps shape plane.words plane.views r i (view_at plane i) (at_place plane.views i blank can.0) can.1 a can.2

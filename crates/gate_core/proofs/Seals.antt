@@ -10,7 +10,7 @@ use Rattle.gate_core.specs.declared.states.PassState.TheVariants.{Idle, Looked, 
 use Rattle.gate_core.specs.declared.states.SlotPhase.TheVariants.{Free, Open, Sealed}
 use Rattle.bloom_page.specs.Bits.{bit_in}
 use Rattle.gate_core.specs.Views.{Spent, Keeper, Duties, View, slot_at, collected_of}
-use Rattle.gate_core.specs.Acts.{seal_of, gate_word, bit_word, open_slot, in_phase, with_duties}
+use Rattle.gate_core.specs.Acts.{seal_of, gate_place, bit_place, open_slot, in_phase, with_duties}
 use Rattle.gate_core.specs.Invariant.{total, in_slot, is_pass, is_keeper, seal_bit, HasPage, IsLive, taken, page_bit, Marked, StateFits, ActorFits, SlotsFit, PlaneFits, PlaneInvariant}
 use Rattle.gate_core.proofs.Lists.{set_here}
 use Rattle.gate_core.proofs.Gates.{gate_seal, sealed_two}
@@ -35,10 +35,10 @@ module _ (shape : PageShape) (words : List ℕ) (views : List View) (r : PlaneIn
   w = with_duties v d'
 
   abbrev x : ℕ
-  x = bit_or (get_or words (gate_word s) 0) 65536
+  x = bit_or (get_or words (gate_place s) 0) 65536
 
   abbrev words' : List ℕ
-  words' = set words (gate_word s) x
+  words' = set words (gate_place s) x
 
   within : s < length d.slots
   within = let a = f.slots.four in omega arith
@@ -94,20 +94,20 @@ module _ (shape : PageShape) (words : List ℕ) (views : List View) (r : PlaneIn
 
   -- bit words stay, and pages with them
   bit_same : (t p : ℕ) → page_bit shape words' d' t p ≡ page_bit shape words d t p
-  bit_same t p = let e = get_or-set_other words (gate_word s) (bit_word shape t (p / 64)) x 0 (λ e. omega arith) in
+  bit_same t p = let e = get_or-set_other words (gate_place s) (bit_place shape t (p / 64)) x 0 (λ e. omega arith) in
       ap (λ (z : ℕ × ℕ). Rattle.std.proofs.Common.cond (Rattle.std.proofs.Common.nat_lt (p / 64) (length (collected_of d z.0))) (bit_in (collected_of d z.0) p) (z.1 / 2 ^ (p % 64) % 2)) (λ k. (pages t k, e k))
 
   still : (i : ℕ) → 5 ≤ i → get_or words' i 0 ≡ get_or words i 0
-  still i big = get_or-set_other words (gate_word s) i x 0 (λ e. omega arith)
+  still i big = get_or-set_other words (gate_place s) i x 0 (λ e. omega arith)
 
-  gates' : (t : ℕ) → t < 4 → get_or words' (gate_word t) 0 ≡ total (in_slot t) (set views id w) + seal_bit (slot_at d' t).phase * 65536 + (slot_at d' t).page * 4294967296
+  gates' : (t : ℕ) → t < 4 → get_or words' (gate_place t) 0 ≡ total (in_slot t) (set views id w) + seal_bit (slot_at d' t).phase * 65536 + (slot_at d' t).page * 4294967296
   gates' = λ t small. let same = total_same shape views id v d' there (in_slot t) refl in let g = f.gates t small in let pg = pages t in
-      phase_case d s Sealed within (λ k y. k ≡ t → get_or words' (gate_word t) 0 ≡ total (in_slot t) (set views id w) + seal_bit y * 65536 + (slot_at d' t).page * 4294967296)
+      phase_case d s Sealed within (λ k y. k ≡ t → get_or words' (gate_place t) 0 ≡ total (in_slot t) (set views id w) + seal_bit y * 65536 + (slot_at d' t).page * 4294967296)
       (λ e. let c = crowd shape words views d v.entries f s in let g' = f.gates s can in let zero : seal_bit (slot_at d s).phase ≡ 0 = ap seal_bit is_open in
-      let shut = gate_seal (total (in_slot s) views) (seal_bit (slot_at d s).phase) (slot_at d s).page (get_or words (gate_word s) 0) (omega arith) (sealed_two (slot_at d s).phase) g' ∙ zero in
-      let new : get_or words' (gate_word t) 0 ≡ get_or words (gate_word s) 0 + 65536 = ap (λ (k : ℕ). get_or words' (gate_word k) 0) (sym e) ∙ (get_or-set_same words (gate_word s) x 0 (let l = f.long in omega arith) ∙ sealed_word (get_or words (gate_word s) 0) shut) in
-      let gt : get_or words (gate_word s) 0 ≡ total (in_slot t) views + 0 * 65536 + (slot_at d t).page * 4294967296 = g' ∙ (λ k. total (in_slot (e k)) views + zero k * 65536 + (slot_at d (e k)).page * 4294967296) in omega arith)
-      (λ k ne e. let old = get_or-set_other words (gate_word s) (gate_word t) x 0 (λ q. ne (omega arith)) in subst (λ (o : ℕ). get_or words' (gate_word t) 0 ≡ total (in_slot t) (set views id w) + seal_bit (slot_at d o).phase * 65536 + (slot_at d' t).page * 4294967296) (sym e) (omega arith))
+      let shut = gate_seal (total (in_slot s) views) (seal_bit (slot_at d s).phase) (slot_at d s).page (get_or words (gate_place s) 0) (omega arith) (sealed_two (slot_at d s).phase) g' ∙ zero in
+      let new : get_or words' (gate_place t) 0 ≡ get_or words (gate_place s) 0 + 65536 = ap (λ (k : ℕ). get_or words' (gate_place k) 0) (sym e) ∙ (get_or-set_same words (gate_place s) x 0 (let l = f.long in omega arith) ∙ sealed_word (get_or words (gate_place s) 0) shut) in
+      let gt : get_or words (gate_place s) 0 ≡ total (in_slot t) views + 0 * 65536 + (slot_at d t).page * 4294967296 = g' ∙ (λ k. total (in_slot (e k)) views + zero k * 65536 + (slot_at d (e k)).page * 4294967296) in omega arith)
+      (λ k ne e. let old = get_or-set_other words (gate_place s) (gate_place t) x 0 (λ q. ne (omega arith)) in subst (λ (o : ℕ). get_or words' (gate_place t) 0 ≡ total (in_slot t) (set views id w) + seal_bit (slot_at d o).phase * 65536 + (slot_at d' t).page * 4294967296) (sym e) (omega arith))
       t refl
 
   pub seals : PlaneInvariant shape words' (set views id w)
@@ -118,16 +118,16 @@ module _ (shape : PageShape) (words : List ℕ) (views : List View) (r : PlaneIn
     keeps = role;
     fits = record {
       in_range = f.in_range;
-      long = length-set words (gate_word s) x ∙ f.long;
-      current_slot = get_or-set_other words (gate_word s) 0 x 0 (λ e. omega arith) ∙ f.current_slot;
+      long = length-set words (gate_place s) x ∙ f.long;
+      current_slot = get_or-set_other words (gate_place s) 0 x 0 (λ e. omega arith) ∙ f.current_slot;
       gates = gates';
       slots = slots';
       actors = seats_then shape views id v d' there (λ e. let q : Keeper ≡ Spent = sym role ∙ e in cc) (λ j u at. seat_then u (f.actors j u at));
       slot_words = λ t small h p lt. let same = bit_same t p in let old = f.slot_words t small (stood t h) p lt in let m = marked_same shape views id v d' there (slot_at d t).page t p in
           subst (λ (g : ℕ). (page_bit shape words' d' t p ≡ 1) ↔ Marked shape (set views id w) g t p) (sym (pages t)) ((λ b. m.0 (old.0 (sym same ∙ b))), (λ y. same ∙ old.1 (m.1 y)));
       collected_words = λ page below whole p lt. let old = f.collected_words page below whole p lt in let m = recorded_same shape views id v d' there page p in ((λ b. m.0 (old.0 b)), (λ y. old.1 (m.1 y)));
-      drained_words = λ t small i lt. still (bit_word shape t i) (omega arith) ∙ f.drained_words t small i (let e = as_taken t in omega arith);
-      free_words = λ t small free i lt. still (bit_word shape t i) (omega arith) ∙ f.free_words t small (was_free t free) i lt;
+      drained_words = λ t small i lt. still (bit_place shape t i) (omega arith) ∙ f.drained_words t small i (let e = as_taken t in omega arith);
+      free_words = λ t small free i lt. still (bit_place shape t i) (omega arith) ∙ f.free_words t small (was_free t free) i lt;
       probes = λ i y at. let k = f.probes i y at in record {
         page_below = k.page_below;
         at_below = k.at_below;
@@ -142,7 +142,3 @@ module _ (shape : PageShape) (words : List ℕ) (views : List View) (r : PlaneIn
       one_keeper = total_same shape views id v d' there is_keeper refl ∙ f.one_keeper;
     };
   }
-
--- the plane invariant from the keeper's own view
-pub own : (shape : PageShape) (words : List ℕ) (views : List View) (r : PlaneInvariant shape words views) (v : View) → r.head ≡ v → PlaneFits shape words views v.duties v.entries
-own shape words views r v e = subst (λ (u : View). PlaneFits shape words views u.duties u.entries) e r.fits

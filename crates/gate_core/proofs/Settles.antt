@@ -10,7 +10,7 @@ use Rattle.gate_core.specs.declared.states.SlotPhase.{SlotPhase}
 use Rattle.gate_core.specs.declared.states.SlotPhase.TheVariants.{Free, Open, Sealed, Quiet}
 use Rattle.bloom_page.specs.Bits.{bit_in}
 use Rattle.gate_core.specs.Views.{Keeper, Duties, View, slot_at, collected_of}
-use Rattle.gate_core.specs.Acts.{inside_of, gate_word, bit_word, in_phase, with_duties, busy, after_settle, IsSealed}
+use Rattle.gate_core.specs.Acts.{inside_of, gate_place, bit_place, in_phase, with_duties, busy, after_settle, IsSealed}
 use Rattle.gate_core.specs.Invariant.{total, counts_in, in_slot, seal_bit, HasPage, IsLive, taken, page_bit, Marked, StateFits, SlotsFit, ActorFits, PlaneFits, PlaneInvariant}
 use Rattle.gate_core.proofs.Lists.{term_le}
 use Rattle.gate_core.proofs.Gates.{tested}
@@ -35,7 +35,7 @@ module _ (shape : PageShape) (words : List ℕ) (views : List View) (id : ℕ) (
   d = v.duties
 
   abbrev n : ℕ
-  n = get_or words (gate_word s) 0
+  n = get_or words (gate_place s) 0
 
   abbrev d1 : Duties
   d1 = record d { noted = n; noted_with = d.out + busy v.state }
@@ -167,7 +167,7 @@ module _ (shape : PageShape) (words : List ℕ) (views : List View) (id : ℕ) (
     }
 
     bit_same : (t p : ℕ) → page_bit shape words d2 t p ≡ page_bit shape words d t p
-    bit_same t p = ap (λ (g : ℕ). cond (nat_lt (p / 64) (length (collected_of d g))) (bit_in (collected_of d g) p) (get_or words (bit_word shape t (p / 64)) 0 / 2 ^ (p % 64) % 2)) (pages t)
+    bit_same t p = ap (λ (g : ℕ). cond (nat_lt (p / 64) (length (collected_of d g))) (bit_in (collected_of d g) p) (get_or words (bit_place shape t (p / 64)) 0 / 2 ^ (p % 64) % 2)) (pages t)
 
     quiet : PlaneInvariant shape words (set views id (with_duties v d2))
     quiet = duty_kept shape words words views id v d2 there role f record {
@@ -191,6 +191,6 @@ module _ (shape : PageShape) (words : List ℕ) (views : List View) (id : ℕ) (
       out = refl;
     }
 
-  pub settles : PlaneInvariant shape (set words (gate_word s) n) (set views id (after_settle v s n))
-  settles = subst (λ (ws : List ℕ). PlaneInvariant shape ws (set views id (after_settle v s n))) (sym (set-get_or words (gate_word s) 0))
+  pub settles : PlaneInvariant shape (set words (gate_place s) n) (set views id (after_settle v s n))
+  settles = subst (λ (ws : List ℕ). PlaneInvariant shape ws (set views id (after_settle v s n))) (sym (set-get_or words (gate_place s) 0))
       (tested (λ (e : Duties). PlaneInvariant shape words (set views id (with_duties v e))) (inside_of n) 0 d2 d1 quiet (λ _. pending))

@@ -8,8 +8,9 @@ use Rattle.spie_base.specs.declared.PageShape.{PageShape}
 use Rattle.gate_core.specs.declared.states.SlotPhase.TheVariants.{Open}
 use Rattle.gate_core.specs.Marks.{width, size}
 use Rattle.gate_core.specs.Views.{Duties, View, slot_at, collected_of, first_keeper}
-use Rattle.gate_core.specs.Acts.{gate_word, bit_word}
-use Rattle.gate_core.specs.Invariant.{total, in_slot, HasPage, IsLive, taken, page_bit, live_bit, HasMark, HasSet, Marked, Recorded, IsCollected, SlotsFit, ActorFits, ProbeFits, PlaneFits, PlaneInvariant, IsFresh}
+use Rattle.gate_core.specs.Acts.{gate_place, bit_place}
+use Rattle.gate_core.specs.Invariant.{total, in_slot, HasPage, IsLive, taken, page_bit, live_bit, HasSet, Marked, Recorded, IsCollected, SlotsFit, ActorFits, ProbeFits, PlaneFits, PlaneInvariant, IsFresh}
+use Rattle.hash_family.specs.Entries.{IsMarked}
 use Rattle.gate_core.proofs.Bits.{page_bit_live}
 
 four_cases : (P : ℕ → Type 0) → P 0 → P 1 → P 2 → P 3 → (s : ℕ) → s < 4 → P s
@@ -23,8 +24,8 @@ only : (j : ℕ) (u : View) → get_elem? (first_keeper ∷ []) j ≡ some u →
 only zero u at = (refl, some-injective first_keeper u at)
 only (suc j) u at = absurd (some-ne-none u (sym at))
 
-no_mark : (shape : PageShape) (u : View) (page p : ℕ) → first_keeper ≡ u → HasMark shape u page p → ⊥
-no_mark shape u page p e h = let (i, x, at, of, among) = subst (λ (y : View). HasMark shape y page p) (sym e) h in some-ne-none x (sym at)
+no_mark : (shape : PageShape) (u : View) (page p : ℕ) → first_keeper ≡ u → IsMarked shape u.entries page p → ⊥
+no_mark shape u page p e h = let (i, x, at, of, among) = subst (λ (y : View). IsMarked shape y.entries page p) (sym e) h in some-ne-none x (sym at)
 
 module _ (shape : PageShape) where
   abbrev d : Duties
@@ -73,19 +74,19 @@ module _ (shape : PageShape) where
       in_range = k.in_range;
       long = k.long;
       current_slot = k.current_slot;
-      gates = four_cases (λ s. get_or words (gate_word s) 0 ≡ total (in_slot s) (first_keeper ∷ []) + Rattle.gate_core.specs.Invariant.seal_bit (slot_at d s).phase * 65536 + (slot_at d s).page * 4294967296)
+      gates = four_cases (λ s. get_or words (gate_place s) 0 ≡ total (in_slot s) (first_keeper ∷ []) + Rattle.gate_core.specs.Invariant.seal_bit (slot_at d s).phase * 65536 + (slot_at d s).page * 4294967296)
           k.first (k.others 1 (omega arith) (omega arith)) (k.others 2 (omega arith) (omega arith)) (k.others 3 (omega arith) (omega arith));
       slots = slots;
       actors = λ j u at. subst (ActorFits shape d) (only j u at).1 actor;
       slot_words = four_cases (λ s. HasPage (slot_at d s).phase → (p : ℕ) → p < size shape → (page_bit shape words d s p ≡ 1) ↔ Marked shape (first_keeper ∷ []) (slot_at d s).page s p)
           (λ _ p small. (
-            (λ b. let e : page_bit shape words d 0 p ≡ 0 = page_bit_live shape words d 0 p slots (omega arith) tt ∙ (ap (λ (x : ℕ). x / 2 ^ (p % 64) % 2) (k.rest (bit_word shape 0 (p / 64)) (omega arith)) ∙ bit_at-zero (p % 64)) in absurd (omega arith)),
+            (λ b. let e : page_bit shape words d 0 p ≡ 0 = page_bit_live shape words d 0 p slots (omega arith) tt ∙ (ap (λ (x : ℕ). x / 2 ^ (p % 64) % 2) (k.rest (bit_place shape 0 (p / 64)) (omega arith)) ∙ bit_at-zero (p % 64)) in absurd (omega arith)),
             λ (j, u, at, x). absurd (⊎_elim (no_mark shape u 0 p (only j u at).1) (λ h. subst (λ (y : View). HasSet shape y.state 0 p) (sym (only j u at).1) h) x),
           ))
           (λ h. absurd h) (λ h. absurd h) (λ h. absurd h);
       collected_words = λ page below whole p small. let z : page ≡ 0 = omega arith in let none : 0 ≡ width shape = ap (λ (x : ℕ). length (collected_of d x)) (sym z) ∙ whole in let a = positive in absurd (omega arith);
-      drained_words = four_cases (λ s. (i : ℕ) → i < taken (slot_at d s).phase → get_or words (bit_word shape s i) 0 ≡ 0) (λ i lt. absurd (omega arith)) (λ i lt. absurd (omega arith)) (λ i lt. absurd (omega arith)) (λ i lt. absurd (omega arith));
-      free_words = λ s near free i lt. k.rest (bit_word shape s i) (omega arith);
+      drained_words = four_cases (λ s. (i : ℕ) → i < taken (slot_at d s).phase → get_or words (bit_place shape s i) 0 ≡ 0) (λ i lt. absurd (omega arith)) (λ i lt. absurd (omega arith)) (λ i lt. absurd (omega arith)) (λ i lt. absurd (omega arith));
+      free_words = λ s near free i lt. k.rest (bit_place shape s i) (omega arith);
       probes = λ i x at. absurd (some-ne-none x (sym at));
       noted = omega arith;
       out = refl;

@@ -10,12 +10,13 @@ use Rattle.spie_base.specs.declared.PageShape.{PageShape}
 use Rattle.gate_core.specs.declared.steps.Act.{Act}
 use Rattle.gate_core.specs.declared.steps.Act.TheVariants.{Look, Enter, Set, Leave, Seal, Settle, Drain, Point, Probe}
 use Rattle.gate_core.specs.declared.steps.Act.TheVariants as act
-use Rattle.gate_core.specs.declared.states.Entry.{Entry}
+use Rattle.spie_base.specs.declared.types.Entry.{Entry}
 use Rattle.gate_core.specs.declared.states.PassState.{PassState}
 use Rattle.gate_core.specs.declared.states.PassState.TheVariants.{Idle, Looked, Inside, Visiting}
 use Rattle.gate_core.specs.Views.{Spent, Pass, Keeper, View, blank}
 use Rattle.gate_core.specs.Acts.{seal_of, page_of, numbered, slot_of, moved_to, after_enter, after_set, after_leave, word_of, view_after, dealer_view, dealt_view, gathered_view}
-use Rattle.gate_core.specs.Invariant.{HasMark, Recorded}
+use Rattle.gate_core.specs.Invariant.{Recorded}
+use Rattle.hash_family.specs.Entries.{IsMarked}
 use Rattle.gate_core.specs.Moves.{Plane, Move, acts, deals, gathers, HasView, view_at, CanMove, after_move, IsRun, HasFirst, HasGathered}
 use Rattle.gate_core.proofs.Lists.{set_here, set_else, at_longer, same_at}
 use Rattle.gate_core.proofs.Gates.{tested}
@@ -125,10 +126,10 @@ module _ (shape : PageShape) where
   pub entries_stay : (plane : Plane) (moves : List Move) (end : Plane) → IsRun shape plane moves end → (i : ℕ) (v : View) → HasView plane i v → HasFirst end i v.entries ⊎ HasGathered end i v.entries
   entries_stay plane moves end run i v at = first_stay plane moves end run i v.entries (v, at, [], sym (append-nil v.entries))
 
-  mark_first : (v u : View) (rest : List Entry) → u.entries ≡ v.entries ++ rest → (page p : ℕ) → HasMark shape v page p → HasMark shape u page p
+  mark_first : (v u : View) (rest : List Entry) → u.entries ≡ v.entries ++ rest → (page p : ℕ) → IsMarked shape v.entries page p → IsMarked shape u.entries page p
   mark_first v u rest is page p (i, e, at, of, among) = (i, e, ap (λ (es : List Entry). get_elem? es i) is ∙ at_longer v.entries rest i e at, of, among)
 
-  mark_gathered : (v u : View) (before rest : List Entry) → u.entries ≡ before ++ v.entries ++ rest → (page p : ℕ) → HasMark shape v page p → HasMark shape u page p
+  mark_gathered : (v u : View) (before rest : List Entry) → u.entries ≡ before ++ v.entries ++ rest → (page p : ℕ) → IsMarked shape v.entries page p → IsMarked shape u.entries page p
   mark_gathered v u before rest is page p (i, e, at, of, among) = let n : ℕ = length before + i in
       (n, e, ap (λ (es : List Entry). get_elem? es n) is ∙ at_longer (before ++ v.entries) rest n e (at_joined before v.entries i n e refl at), of, among)
 

@@ -9,7 +9,7 @@ use Rattle.gate_core.specs.declared.steps.Act.{Act}
 use Rattle.gate_core.specs.declared.steps.Act.TheVariants.{Look, Enter, Set, Leave, Seal, Settle, Drain, Point, Probe}
 use Rattle.gate_core.specs.declared.steps.Act.TheVariants as act
 use Rattle.gate_core.specs.declared.steps.StepAnswer.{StepAnswer}
-use Rattle.gate_core.specs.declared.states.Entry.{Entry}
+use Rattle.spie_base.specs.declared.types.Entry.{Entry}
 use Rattle.gate_core.specs.declared.states.PassState.{PassState}
 use Rattle.gate_core.specs.declared.states.PassState.TheVariants.{Idle, Looked, Inside, Visiting}
 use Rattle.gate_core.specs.declared.states.SlotPhase.{SlotPhase}

@@ -5,6 +5,7 @@
 -- Read `Acts`, the relation, and then the four definitions that it cites, `Enabled`, `word_of`, `word_after` and `view_after`;
 -- their equations stand in the order of the acts.
 use Rattle.std.specs.Prelude.{◌≡◌, ℕ, ◌+◌, ◌-◌, ◌*◌, ◌/◌, ◌%◌, ◌^◌, ◌<◌, ◌==◌, true, cond, List, [], ◌∷◌, ◌++◌, length, slice_set, bit_or}
+use Rattle.std.specs.Int.{bit_at}
 use Rattle.spie_base.specs.declared.Sig.{Sig}
 use Rattle.spie_base.specs.declared.PageNo.{PageNo}
 use Rattle.spie_base.specs.declared.PageShape.{PageShape}
@@ -18,6 +19,7 @@ use Rattle.gate_core.specs.declared.states.SlotPhase.TheVariants.{Free, Open, Se
 use Rattle.hash_family.specs.Positions.{position}
 use Rattle.gate_core.specs.Marks.{width, size}
 use Rattle.gate_core.specs.Views.{Slot, Pass, Keeper, Duties, no_duties, View, slot_at, collected_of}
+use Rattle.gate_core.specs.declared.limits.TheConstants.{NO_SLOT, SLOTS}
 
 -- ---- a gate word: bits 0 to 15 are the number inside, bit 16 says that the slot is sealed, bits 32 to 63 are the page
 
@@ -36,12 +38,16 @@ page_of gate = gate / 4294967296
 -- ---- which word: word 0 is the current slot, words 1 to 4 are the gates, and then come the bit words, slot by slot
 
 -- the gate of the slot
-abbrev pub gate_word : ℕ → ℕ
-gate_word slot = 1 + slot
+abbrev pub gate_place : ℕ → ℕ
+gate_place slot = 1 + slot
 
 -- bit word i of the slot
-abbrev pub bit_word : PageShape → ℕ → ℕ → ℕ
-bit_word shape slot i = 5 + slot * width shape + i
+abbrev pub bit_place : PageShape → ℕ → ℕ → ℕ
+bit_place shape slot i = 5 + slot * width shape + i
+
+-- how many words they are
+abbrev pub word_count : PageShape → ℕ
+word_count shape = 5 + 4 * width shape
 
 abbrev pub numbered : ℕ → PageNo
 numbered page = record { number = page }
@@ -53,11 +59,12 @@ if_open Open a b = a
 if_open Sealed a b = b
 if_open (Quiet next) a b = b
 
--- the slot that is open, or 4
+-- the slot that is open, or as many as there are
 abbrev pub open_among : List Slot → ℕ → ℕ
 open_among [] s = s
 open_among (x ∷ xs) s = if_open x.phase s (open_among xs (s + 1))
 
+-- the slot that is open, or `NO_SLOT`
 abbrev pub open_slot : Duties → ℕ
 open_slot d = open_among d.slots 0
 
@@ -69,13 +76,13 @@ next_word _ = 0
 -- the word of the next mark, where the actor is Inside
 abbrev pub record_word : PageShape → PassState → ℕ
 record_word shape Idle = 0
-record_word shape (Looked s) = gate_word s
-record_word shape (Inside s page sig m) = bit_word shape s (position shape page.number sig m / 64)
-record_word shape (Visiting s gate) = gate_word s
+record_word shape (Looked s) = gate_place s
+record_word shape (Inside s page sig m) = bit_place shape s (position shape page.number sig m / 64)
+record_word shape (Visiting s gate) = gate_place s
 
--- the slot of the state, 4 where it has none
+-- the slot of the state, `NO_SLOT` where it has none
 abbrev pub slot_of : PassState → ℕ
-slot_of Idle = 4
+slot_of Idle = NO_SLOT
 slot_of (Looked s) = s
 slot_of (Inside s page sig m) = s
 slot_of (Visiting s gate) = s
@@ -85,23 +92,23 @@ abbrev pub word_of : PageShape → Act → View → ℕ
 -- the current-slot word
 word_of shape Look v = 0
 -- the gate of the slot that was looked up
-word_of shape (Enter sig) v = gate_word (slot_of v.state)
+word_of shape (Enter sig) v = gate_place (slot_of v.state)
 -- the bit word of the record's next mark
 word_of shape Set v = record_word shape v.state
 -- the gate of the slot in which the actor is Inside or Visiting
-word_of shape Leave v = gate_word (slot_of v.state)
+word_of shape Leave v = gate_place (slot_of v.state)
 -- the gate of the open slot
-word_of shape Seal v = gate_word (open_slot v.duties)
+word_of shape Seal v = gate_place (open_slot v.duties)
 -- the gate of s
-word_of shape (Settle s) v = gate_word s
+word_of shape (Settle s) v = gate_place s
 -- the bit word `next` of s
-word_of shape (Drain s) v = bit_word shape s (next_word (slot_at v.duties s).phase)
+word_of shape (Drain s) v = bit_place shape s (next_word (slot_at v.duties s).phase)
 -- the gate of s
-word_of shape (act.Open s) v = gate_word s
+word_of shape (act.Open s) v = gate_place s
 -- the current-slot word
 word_of shape Point v = 0
 -- the bit word of position p in s
-word_of shape (Probe s p) v = bit_word shape s (p / 64)
+word_of shape (Probe s p) v = bit_place shape s (p / 64)
 
 -- ---- what the word becomes
 
@@ -109,6 +116,14 @@ word_of shape (Probe s p) v = bit_word shape s (p / 64)
 abbrev pub mask_of : PageShape → PassState → ℕ
 mask_of shape (Inside s page sig m) = 2 ^ (position shape page.number sig m % 64)
 mask_of shape _ = 0
+
+-- what is added to the gate of a slot whose page is old, so that it is new and unsealed: (new - old) * 2^32 - 2^16, of 64 bits
+abbrev pub reopening : (old new : ℕ) → ℕ
+reopening old new = (new * 4294967296 + 2 ^ 64 - old * 4294967296 - 65536) % 2 ^ 64
+
+-- a gate whose slot had one page and gets another: those inside stay counted, and the seal goes
+abbrev pub reopened : (gate old new : ℕ) → ℕ
+reopened gate old new = (gate + reopening old new) % 2 ^ 64
 
 -- the word after the act, n being the number that it read
 abbrev pub word_after : PageShape → Act → View → ℕ → ℕ
@@ -126,8 +141,8 @@ word_after shape Seal v n = bit_or n 65536
 word_after shape (Settle s) v n = n
 -- a swap with 0
 word_after shape (Drain s) v n = 0
--- fetch-add of (next page - old page) * 2^32 - 2^16: the new page, unsealed, with as many inside as before
-word_after shape (act.Open s) v n = (n + (v.duties.next * 4294967296 + 2 ^ 64 - (slot_at v.duties s).page * 4294967296 - 65536) % 2 ^ 64) % 2 ^ 64
+-- fetch-add: the next page, unsealed, with as many inside as before
+word_after shape (act.Open s) v n = reopened n (slot_at v.duties s).page v.duties.next
 -- a store of the open slot
 word_after shape Point v n = open_slot v.duties
 -- a load
@@ -162,9 +177,13 @@ with_duties v d = record v { duties = d }
 abbrev pub with_slot : Duties → ℕ → Slot → Duties
 with_slot d s x = record d { slots = slice_set d.slots s x }
 
--- the slot s goes into the phase ph, with the page that it has
+-- the slot s in the phase ph, with the page that it has
+abbrev pub phased_slot : Duties → ℕ → SlotPhase → Slot
+phased_slot d s ph = record { phase = ph; page = (slot_at d s).page; used = (slot_at d s).used }
+
+-- the slot s goes into the phase ph
 abbrev pub in_phase : Duties → ℕ → SlotPhase → Duties
-in_phase d s ph = with_slot d s (record { phase = ph; page = (slot_at d s).page; used = (slot_at d s).used })
+in_phase d s ph = with_slot d s (phased_slot d s ph)
 
 -- 1 where the keeper has begun a record of its own
 abbrev pub busy : PassState → ℕ
@@ -175,11 +194,19 @@ busy _ = 1
 abbrev pub after_settle : View → ℕ → ℕ → View
 after_settle v s n = let d = record v.duties { noted = n; noted_with = v.duties.out + busy v.state } in with_duties v (cond (inside_of n == 0) (in_phase d s (Quiet 0)) d)
 
+-- Quiet, with so many words taken, or Free after the last one
+abbrev pub phase_taken : PageShape → (taken : ℕ) → SlotPhase
+phase_taken shape taken = cond (taken == width shape) Free (Quiet taken)
+
 -- the word joins the collected ones of the slot's page; after the last word the slot is Free
 abbrev pub after_drain : PageShape → View → ℕ → ℕ → View
 after_drain shape v s n = let j = next_word (slot_at v.duties s).phase in let page = (slot_at v.duties s).page in
     let d = record v.duties { collected = slice_set v.duties.collected page (collected_of v.duties page ++ n ∷ []) } in
-    with_duties v (in_phase d s (cond (j + 1 == width shape) Free (Quiet (j + 1))))
+    with_duties v (in_phase d s (phase_taken shape (j + 1)))
+
+-- after all its drains so far: the slot is in this phase, and its page has these collected words
+abbrev pub drained_to : View → (slot : ℕ) → SlotPhase → List ℕ → View
+drained_to v s ph words = let d = v.duties in with_duties v (record d { slots = slice_set d.slots s (phased_slot d s ph); collected = slice_set d.collected (slot_at d s).page words })
 
 -- the next page is open in the slot, and none of its words is collected
 abbrev pub after_open : View → ℕ → View
@@ -187,7 +214,7 @@ after_open v s = let d = record v.duties { next = v.duties.next + 1; collected =
 
 -- the bit is noted, and with it how many entries the keeper has
 abbrev pub after_probe : View → ℕ → ℕ → ℕ → View
-after_probe v s p n = with_duties v (record v.duties { probes = v.duties.probes ++ record { page = (slot_at v.duties s).page; at = p; bit = n / 2 ^ (p % 64) % 2; known = length v.entries } ∷ [] })
+after_probe v s p n = with_duties v (record v.duties { probes = v.duties.probes ++ record { page = (slot_at v.duties s).page; at = p; bit = bit_at n (p % 64) == 1; known = length v.entries } ∷ [] })
 
 -- the actor's view after the act
 abbrev pub view_after : PageShape → Act → View → ℕ → View
@@ -272,17 +299,17 @@ Enabled shape Set v = CanSet shape v.state
 -- Inside with all k marks set, or Visiting
 Enabled shape Leave v = CanLeave shape v.state
 -- the keeper, and a slot is Open
-Enabled shape Seal v = (v.role ≡ Keeper) × (open_slot v.duties < 4)
+Enabled shape Seal v = (v.role ≡ Keeper) × (open_slot v.duties < SLOTS)
 -- the keeper, and s is Sealed
-Enabled shape (Settle s) v = (v.role ≡ Keeper) × (s < 4) × IsSealed (slot_at v.duties s).phase
+Enabled shape (Settle s) v = (v.role ≡ Keeper) × (s < SLOTS) × IsSealed (slot_at v.duties s).phase
 -- the keeper, and s is Quiet
-Enabled shape (Drain s) v = (v.role ≡ Keeper) × (s < 4) × IsQuiet (slot_at v.duties s).phase
+Enabled shape (Drain s) v = (v.role ≡ Keeper) × (s < SLOTS) × IsQuiet (slot_at v.duties s).phase
 -- the keeper, s is Free, no slot is Open, and the page after the next one is below 2^32
-Enabled shape (act.Open s) v = (v.role ≡ Keeper) × (s < 4) × ((slot_at v.duties s).phase ≡ Free) × (open_slot v.duties ≡ 4) × (v.duties.next < 4294967295)
+Enabled shape (act.Open s) v = (v.role ≡ Keeper) × (s < SLOTS) × ((slot_at v.duties s).phase ≡ Free) × (open_slot v.duties ≡ NO_SLOT) × (v.duties.next < 4294967295)
 -- the keeper, and a slot is Open
-Enabled shape Point v = (v.role ≡ Keeper) × (open_slot v.duties < 4)
+Enabled shape Point v = (v.role ≡ Keeper) × (open_slot v.duties < SLOTS)
 -- the keeper, s is Open, Sealed, or Quiet with `next` 0, and p is one of a page's positions
-Enabled shape (Probe s p) v = (v.role ≡ Keeper) × (s < 4) × (p < size shape) × CanProbe (slot_at v.duties s).phase
+Enabled shape (Probe s p) v = (v.role ≡ Keeper) × (s < SLOTS) × (p < size shape) × CanProbe (slot_at v.duties s).phase
 
 -- ---- the relation
 

@@ -1,5 +1,5 @@
 -- The machine: the words, the views of its actors, the finished entries in order, and a step.
-use Rattle.std.specs.Prelude.{All, ◌≡◌, ℕ, ◌+◌, ◌-◌, ◌<◌, ◌==◌, ◌%◌, ◌^◌, List, [], ◌∷◌, ◌++◌, length, map, slice_index, slice_range, if◌then◌else◌}
+use Rattle.std.specs.Prelude.{All, ◌≡◌, ℕ, ◌+◌, ◌-◌, ◌<◌, ◌==◌, ◌%◌, ◌^◌, Bool, true, false, not, nat_lt, ◌&&◌, List, [], ◌∷◌, ◌++◌, length, map, slice_index, slice_range, if◌then◌else◌}
 use Rattle.std.specs.Int.{bit_at}
 use Rattle.spie_base.specs.declared.PageShape.{PageShape}
 use Rattle.gate_core.specs.declared.steps.Actor.{Actor}
@@ -10,16 +10,17 @@ use Rattle.gate_core.specs.declared.steps.Act.TheVariants as act
 use Rattle.gate_core.specs.declared.steps.Step.{Step}
 use Rattle.gate_core.specs.declared.steps.StepAnswer.{StepAnswer}
 use Rattle.gate_core.specs.declared.steps.StepAnswer.TheVariants as answer
-use Rattle.gate_core.specs.declared.states.Entry.{Entry}
+use Rattle.spie_base.specs.declared.types.Entry.{Entry}
 use Rattle.gate_core.specs.declared.states.PassState.{PassState}
 use Rattle.gate_core.specs.declared.states.PassState.TheVariants.{Idle, Looked, Inside, Visiting}
 use Rattle.gate_core.specs.declared.states.ActorState.{ActorState}
 use Rattle.gate_core.specs.declared.states.ActorState.TheVariants as actor_state
 use Rattle.gate_core.specs.Marks.{width, size}
 use Rattle.gate_core.specs.Views.{Slot, Duties, View, slot_at}
-use Rattle.gate_core.specs.Acts.{inside_of, seal_of, page_of, numbered, bit_word, open_slot, next_word, word_of, Enabled}
+use Rattle.gate_core.specs.Acts.{inside_of, seal_of, page_of, numbered, bit_place, open_slot, next_word, word_of, Enabled}
 use Rattle.gate_core.specs.Moves as moves
 use Rattle.gate_core.specs.Moves.{Plane}
+use Rattle.gate_core.specs.declared.limits.TheConstants.{SLOTS}
 
 -- The keeper's view is the first, and the passes' follow in their order. `finishers` has the place of the actor that
 -- finished each entry. For `room` steps the machine has memory.
@@ -119,22 +120,26 @@ pub record Stepped (c : Core) (place : ℕ) (a : Act) (c' : Core) (reply : StepA
 
 -- ---- what a step has to be
 
-abbrev pub ActsAlone : Actor → Type 0
-ActsAlone actor.Keeper = Unit {0}
-ActsAlone (actor.Pass number) = ⊥
+-- only the keeper may do it
+abbrev pub is_keepers : Act → Bool
+is_keepers Look = false
+is_keepers (Enter sig) = false
+is_keepers Set = false
+is_keepers Leave = false
+is_keepers _ = true
 
--- the slot and the position exist, and the keeper's acts are done by the keeper
-abbrev pub IsStepOf : PageShape → Actor → Act → Type 0
-IsStepOf shape who Look = Unit {0}
-IsStepOf shape who (Enter sig) = Unit {0}
-IsStepOf shape who Set = Unit {0}
-IsStepOf shape who Leave = Unit {0}
-IsStepOf shape who Seal = ActsAlone who
-IsStepOf shape who (Settle s) = ActsAlone who × (s < 4)
-IsStepOf shape who (Drain s) = ActsAlone who × (s < 4)
-IsStepOf shape who (act.Open s) = ActsAlone who × (s < 4)
-IsStepOf shape who Point = ActsAlone who
-IsStepOf shape who (Probe s p) = ActsAlone who × (s < 4) × (p < size shape)
+-- this actor may do it
+abbrev pub may_do : Actor → Act → Bool
+may_do actor.Keeper a = true
+may_do (actor.Pass number) a = not (is_keepers a)
+
+-- the slot and the position of the act exist
+abbrev pub is_within : PageShape → Act → Bool
+is_within shape (Settle s) = nat_lt s SLOTS
+is_within shape (Drain s) = nat_lt s SLOTS
+is_within shape (act.Open s) = nat_lt s SLOTS
+is_within shape (Probe s p) = nat_lt s SLOTS && nat_lt p (size shape)
+is_within shape _ = true
 
 -- where the step opens a page, its number fits
 abbrev pub PageFits : Act → Duties → Type 0
@@ -144,10 +149,11 @@ PageFits _ d = Unit {0}
 -- what a caller owes of a step
 pub record CanStep (c : Core) (step : Step) : Type 0 where
   pub actor : place_of step.actor < length c.views
-  pub exists : IsStepOf c.shape step.actor step.act
+  pub may : may_do step.actor step.act ≡ true
+  pub within : is_within c.shape step.act ≡ true
   pub fits : PageFits step.act (duties_of c)
 
 -- ---- the words of a page: those collected, and then the live ones of its slot
 
 abbrev pub live_words : PageShape → List ℕ → (slot from : ℕ) → List ℕ
-live_words shape words s from = slice_range words (bit_word shape s from) (bit_word shape s (width shape))
+live_words shape words s from = slice_range words (bit_place shape s from) (bit_place shape s (width shape))

@@ -1,5 +1,6 @@
--- What an act of the keeper does to its desk.
-use Rattle.std.specs.Prelude.{◌≡◌, ℕ, ◌+◌, ◌-◌, ◌*◌, ◌/◌, ◌%◌, ◌^◌, ◌==◌, cond, true, List, [], ◌∷◌, ◌++◌, length, slice_get, slice_set, slice_index, slice_index_or, Some, vec_capacity, Vec}
+-- What an act of the keeper does to its desk. No public clause cites this module.
+use Rattle.std.specs.Prelude.{◌≡◌, ℕ, ◌+◌, ◌-◌, ◌/◌, ◌%◌, ◌==◌, cond, true, List, [], ◌∷◌, ◌++◌, length, slice_get, slice_set, slice_index, slice_index_or, Some, vec_capacity, Vec}
+use Rattle.std.specs.Int.{bit_at}
 use Rattle.std.specs.declared.alloc.Global.{Global}
 use Rattle.hash_family.specs.Positions.{Drawn}
 use Rattle.gate_core.specs.declared.states.SlotPhase.{SlotPhase}
@@ -10,7 +11,7 @@ use Rattle.gate_core.specs.Views.{Probed, Slot, no_slot}
 use Rattle.gate_core.specs.declared.states.PassState.{PassState}
 use Rattle.gate_core.specs.declared.states.PassState.TheVariants.{Idle}
 use Rattle.gate_core.specs.declared.core_data.Seat.{Seat}
-use Rattle.gate_core.specs.Acts.{inside_of, gate_word, bit_word, busy}
+use Rattle.gate_core.specs.Acts.{inside_of, gate_place, bit_place, busy}
 
 abbrev pub slot_in : Desk → (slot : ℕ) → Slot
 slot_in desk s = slice_index_or desk.slots s no_slot
@@ -72,20 +73,16 @@ abbrev pub moved_on : CoreData → (words : Vec ℕ Global) → Desk → CoreDat
 moved_on m words desk = record m { words = words; desk = desk; room = m.room - 1 }
 
 abbrev pub gate_in : CoreData → (slot : ℕ) → ℕ
-gate_in m s = slice_index m.words.items (gate_word s)
+gate_in m s = slice_index m.words.items (gate_place s)
 
 -- word i of a slot
 abbrev pub word_in : CoreData → (slot i : ℕ) → ℕ
-word_in m s i = slice_index m.words.items (bit_word m.shape s i)
+word_in m s i = slice_index m.words.items (bit_place m.shape s i)
 
 -- the bit of a position, of 64 in each word
 abbrev pub bit_in_slot : CoreData → (slot at : ℕ) → ℕ
-bit_in_slot m s at = word_in m s (at / 64) / 2 ^ (at % 64) % 2
+bit_in_slot m s at = bit_at (word_in m s (at / 64)) (at % 64)
 
 -- what a probe notes
 abbrev pub probed : CoreData → (slot at : ℕ) → Probed
-probed m s at = record { page = (slot_in m.desk s).page; at = at; bit = bit_in_slot m s at; known = m.entries.own }
-
--- a gate whose slot had one page and gets another: those inside stay counted, and the seal goes
-abbrev pub reopened : (gate old new : ℕ) → ℕ
-reopened gate old new = (gate + (new * 4294967296 + 2 ^ 64 - old * 4294967296 - 65536) % 2 ^ 64) % 2 ^ 64
+probed m s at = record { page = (slot_in m.desk s).page; at = at; bit = bit_in_slot m s at == 1; known = m.entries.own }

@@ -3,19 +3,23 @@
 -- The words are the current-slot word, four gate words and the bit words of four slots. The views are one list: the
 -- keeper's, the passes', and the blank ones of passes that were gathered. Read `PlaneFits` first, at the end: it is the
 -- invariant for the keeper's duties d and its entries, and `PlaneInvariant` says that they are the keeper's own.
-use Rattle.std.specs.Prelude.{◌≡◌, ℕ, ◌+◌, ◌*◌, ◌/◌, ◌%◌, ◌^◌, ◌<◌, ◌≤◌, ◌==◌, true, cond, nat_lt, List, [], ◌∷◌, length, slice_index, ◌⊎◌, ◌↔◌}
+use Rattle.std.specs.Prelude.{◌≡◌, ℕ, ◌+◌, ◌*◌, ◌/◌, ◌%◌, ◌<◌, ◌≤◌, ◌==◌, Bool, T, true, false, cond, nat_lt, List, [], ◌∷◌, length, slice_index, ◌⊎◌, ◌↔◌}
+use Rattle.std.specs.Int.{bit_at}
 use mathlib.Core.Option.{some}
 use lib.ListN.{get_elem?}
 use Rattle.spie_base.specs.declared.PageShape.{PageShape}
-use Rattle.gate_core.specs.declared.states.Entry.{Entry}
+use Rattle.spie_base.specs.declared.types.Entry.{Entry}
 use Rattle.gate_core.specs.declared.states.PassState.{PassState}
 use Rattle.gate_core.specs.declared.states.PassState.TheVariants.{Idle, Looked, Inside, Visiting}
 use Rattle.gate_core.specs.declared.states.SlotPhase.{SlotPhase}
 use Rattle.gate_core.specs.declared.states.SlotPhase.TheVariants.{Free, Open, Sealed, Quiet}
 use Rattle.bloom_page.specs.Bits.{bit_in}
-use Rattle.gate_core.specs.Marks.{IsShape, width, size, IsAmong}
+use Rattle.gate_core.specs.Marks.{width, size}
+use Rattle.hash_family.specs.Entries.{IsAmong, IsMarked}
+use Rattle.spie_base.specs.Shapes.{IsShape}
 use Rattle.gate_core.specs.Views.{Visit, Probed, Role, Spent, Pass, Keeper, Duties, View, blank, slot_at, collected_of}
-use Rattle.gate_core.specs.Acts.{inside_of, seal_of, page_of, gate_word, bit_word}
+use Rattle.gate_core.specs.Acts.{inside_of, seal_of, page_of, gate_place, bit_place, word_count}
+use Rattle.gate_core.specs.declared.limits.TheConstants.{MOST_PASSES, SLOTS}
 
 -- ---- counts over the views
 
@@ -62,11 +66,14 @@ seal_bit Sealed = 1
 seal_bit (Quiet next) = 1
 
 -- a page stands in the slot: its words are not all collected
+abbrev pub has_page : SlotPhase → Bool
+has_page Free = false
+has_page Open = true
+has_page Sealed = true
+has_page (Quiet next) = true
+
 abbrev pub HasPage : SlotPhase → Type 0
-HasPage Free = ⊥
-HasPage Open = Unit {0}
-HasPage Sealed = Unit {0}
-HasPage (Quiet next) = Unit {0}
+HasPage phase = T (has_page phase)
 
 -- records may be Inside the slot
 abbrev pub IsLive : SlotPhase → Type 0
@@ -93,15 +100,11 @@ taken (Quiet next) = next
 
 -- bit p of the slot's live words
 abbrev pub live_bit : PageShape → List ℕ → ℕ → ℕ → ℕ
-live_bit shape words s p = slice_index words (bit_word shape s (p / 64)) / 2 ^ (p % 64) % 2
+live_bit shape words s p = bit_at (slice_index words (bit_place shape s (p / 64))) (p % 64)
 
 -- bit p of the page in the slot: of the collected words as far as they go, and then of the live ones
 abbrev pub page_bit : PageShape → List ℕ → Duties → ℕ → ℕ → ℕ
 page_bit shape words d s p = let got = collected_of d (slot_at d s).page in cond (nat_lt (p / 64) (length got)) (bit_in got p) (live_bit shape words s p)
-
--- p is a mark of an entry that this actor finished in the page
-abbrev pub HasMark : PageShape → View → ℕ → ℕ → Type 0
-HasMark shape v page p = (i : ℕ) × (e : Entry) × (get_elem? v.entries i ≡ some e) × (e.page.number ≡ page) × IsAmong shape page e.sig shape.k p
 
 -- p is one of the marks that an actor Inside the slot has set so far
 abbrev pub HasSet : PageShape → PassState → ℕ → ℕ → Type 0
@@ -112,11 +115,11 @@ HasSet shape (Visiting t gate) s p = ⊥
 
 -- p is a mark of an entry of the page, of whichever actor
 abbrev pub Recorded : PageShape → List View → ℕ → ℕ → Type 0
-Recorded shape views page p = (j : ℕ) × (v : View) × (get_elem? views j ≡ some v) × HasMark shape v page p
+Recorded shape views page p = (j : ℕ) × (v : View) × (get_elem? views j ≡ some v) × IsMarked shape v.entries page p
 
 -- p is a mark of an entry of the page, or one that an actor Inside the slot has set so far
 abbrev pub Marked : PageShape → List View → ℕ → ℕ → ℕ → Type 0
-Marked shape views page s p = (j : ℕ) × (v : View) × (get_elem? views j ≡ some v) × (HasMark shape v page p ⊎ HasSet shape v.state s p)
+Marked shape views page s p = (j : ℕ) × (v : View) × (get_elem? views j ≡ some v) × (IsMarked shape v.entries page p ⊎ HasSet shape v.state s p)
 
 -- all words of the page are collected
 abbrev pub IsCollected : PageShape → Duties → ℕ → Type 0
@@ -127,29 +130,29 @@ IsCollected shape d page = length (collected_of d page) ≡ width shape
 -- The slots, their pages and the collected words, as the keeper knows them
 pub record SlotsFit (shape : PageShape) (d : Duties) : Type 0 where
   -- there are four slots
-  pub four : length d.slots ≡ 4
+  pub four : length d.slots ≡ SLOTS
   -- the slot that the keeper last pointed at is one of them
-  pub pointed_slot : d.pointed < 4
+  pub pointed_slot : d.pointed < SLOTS
   -- in the slot that the keeper last pointed at a page was opened
   pub pointed_used : (slot_at d d.pointed).used ≡ true
   -- an Open slot has the greatest page below the next page, so at most one slot is Open
-  pub open_last : (s : ℕ) → s < 4 → (slot_at d s).phase ≡ Open → (slot_at d s).page + 1 ≡ d.next
+  pub open_last : (s : ℕ) → s < SLOTS → (slot_at d s).phase ≡ Open → (slot_at d s).page + 1 ≡ d.next
   -- in a slot that is Open, Sealed or Quiet a page was opened
-  pub stands_used : (s : ℕ) → s < 4 → HasPage (slot_at d s).phase → (slot_at d s).used ≡ true
+  pub stands_used : (s : ℕ) → s < SLOTS → HasPage (slot_at d s).phase → (slot_at d s).used ≡ true
   -- the pages of the slots in which a page was ever opened are below the next page
-  pub used_below : (s : ℕ) → s < 4 → (slot_at d s).used ≡ true → (slot_at d s).page < d.next
+  pub used_below : (s : ℕ) → s < SLOTS → (slot_at d s).used ≡ true → (slot_at d s).page < d.next
   -- the slots in which a page was ever opened have different pages
-  pub used_apart : (s t : ℕ) → s < 4 → t < 4 → (slot_at d s).used ≡ true → (slot_at d t).used ≡ true → (slot_at d s).page ≡ (slot_at d t).page → s ≡ t
+  pub used_apart : (s t : ℕ) → s < SLOTS → t < SLOTS → (slot_at d s).used ≡ true → (slot_at d t).used ≡ true → (slot_at d s).page ≡ (slot_at d t).page → s ≡ t
   -- no slot has a page above the next page, whether or not one was opened in it
-  pub page_within : (s : ℕ) → s < 4 → (slot_at d s).page ≤ d.next
+  pub page_within : (s : ℕ) → s < SLOTS → (slot_at d s).page ≤ d.next
   -- each page below the next page is collected or stands in a slot that is Open, Sealed or Quiet
-  pub placed : (page : ℕ) → page < d.next → IsCollected shape d page ⊎ ((s : ℕ) × (s < 4) × HasPage (slot_at d s).phase × ((slot_at d s).page ≡ page))
+  pub placed : (page : ℕ) → page < d.next → IsCollected shape d page ⊎ ((s : ℕ) × (s < SLOTS) × HasPage (slot_at d s).phase × ((slot_at d s).page ≡ page))
   -- only pages below the next page have collected words
   pub one_list : length d.collected ≡ d.next
   -- of a page that stands in a Quiet slot the words before `next` are collected, of one in an Open or Sealed slot none
-  pub taken_words : (s : ℕ) → s < 4 → HasPage (slot_at d s).phase → length (collected_of d (slot_at d s).page) ≡ taken (slot_at d s).phase
+  pub taken_words : (s : ℕ) → s < SLOTS → HasPage (slot_at d s).phase → length (collected_of d (slot_at d s).page) ≡ taken (slot_at d s).phase
   -- `next` of a Quiet slot is below the number of a slot's words
-  pub taken_short : (s : ℕ) → s < 4 → taken (slot_at d s).phase < width shape
+  pub taken_short : (s : ℕ) → s < SLOTS → taken (slot_at d s).phase < width shape
   -- the next page is below 2^32, as the page in a gate has 32 bits
   pub fits : d.next < 4294967296
 
@@ -159,9 +162,9 @@ pub record SlotsFit (shape : PageShape) (d : Duties) : Type 0 where
 -- floor. An actor Inside has the slot's page, the slot is Open or Sealed, and the marks set are at most k
 abbrev pub StateFits : PageShape → Duties → ℕ → PassState → Type 0
 StateFits shape d floor Idle = Unit {0}
-StateFits shape d floor (Looked s) = (s < 4) × ((slot_at d s).used ≡ true) × (floor ≤ (slot_at d s).page)
-StateFits shape d floor (Inside s page sig m) = (s < 4) × ((slot_at d s).used ≡ true) × (floor ≤ (slot_at d s).page) × (page.number ≡ (slot_at d s).page) × IsLive (slot_at d s).phase × (m ≤ shape.k)
-StateFits shape d floor (Visiting s gate) = (s < 4) × ((slot_at d s).used ≡ true) × (floor ≤ (slot_at d s).page)
+StateFits shape d floor (Looked s) = (s < SLOTS) × ((slot_at d s).used ≡ true) × (floor ≤ (slot_at d s).page)
+StateFits shape d floor (Inside s page sig m) = (s < SLOTS) × ((slot_at d s).used ≡ true) × (floor ≤ (slot_at d s).page) × (page.number ≡ (slot_at d s).page) × IsLive (slot_at d s).phase × (m ≤ shape.k)
+StateFits shape d floor (Visiting s gate) = (s < SLOTS) × ((slot_at d s).used ≡ true) × (floor ≤ (slot_at d s).page)
 
 -- an actor Inside has no smaller page than its entries
 abbrev pub IsLast : List Entry → PassState → Type 0
@@ -179,7 +182,7 @@ pub record VisitFits (d : Duties) (floor : ℕ) (x : Visit) : Type 0 where
   -- the page in that gate is not below the actor's floor
   pub from_floor : floor ≤ page_of x.gate
   -- the page in that gate stands in no Open slot
-  pub not_open : (s : ℕ) → s < 4 → (slot_at d s).phase ≡ Open → ¬ ((slot_at d s).page ≡ page_of x.gate)
+  pub not_open : (s : ℕ) → s < SLOTS → (slot_at d s).phase ≡ Open → ¬ ((slot_at d s).page ≡ page_of x.gate)
 
 -- One actor, whatever its role
 pub record ActorFits (shape : PageShape) (d : Duties) (v : View) : Type 0 where
@@ -213,9 +216,9 @@ pub record ProbeFits (shape : PageShape) (words : List ℕ) (d : Duties) (mine :
   -- the number of entries that it noted is at most the number of the keeper's entries
   pub known : x.known ≤ length mine
   -- a position that was read as set is set in the collected or in the live words of the page
-  pub seen : x.bit ≡ 1 → (IsCollected shape d x.page × (bit_in (collected_of d x.page) x.at ≡ 1)) ⊎ ((s : ℕ) × (s < 4) × HasPage (slot_at d s).phase × ((slot_at d s).page ≡ x.page) × (page_bit shape words d s x.at ≡ 1))
+  pub seen : x.bit ≡ true → (IsCollected shape d x.page × (bit_in (collected_of d x.page) x.at ≡ 1)) ⊎ ((s : ℕ) × (s < SLOTS) × HasPage (slot_at d s).phase × ((slot_at d s).page ≡ x.page) × (page_bit shape words d s x.at ≡ 1))
   -- a position that was read as not set is no mark of an entry of the page among those that the keeper then had
-  pub unseen : x.bit ≡ 0 → (i : ℕ) (e : Entry) → i < x.known → get_elem? mine i ≡ some e → e.page.number ≡ x.page → ¬ IsAmong shape x.page e.sig shape.k x.at
+  pub unseen : x.bit ≡ false → (i : ℕ) (e : Entry) → i < x.known → get_elem? mine i ≡ some e → e.page.number ≡ x.page → ¬ IsAmong shape x.page e.sig shape.k x.at
 
 -- ---- the whole
 
@@ -224,33 +227,33 @@ pub record PlaneFits (shape : PageShape) (words : List ℕ) (views : List View) 
   -- k and n are in their ranges
   pub in_range : IsShape shape
   -- the words are the current-slot word, four gates and the bit words of four slots
-  pub long : length words ≡ 5 + 4 * width shape
+  pub long : length words ≡ word_count shape
   -- the current-slot word is the slot that the keeper last pointed at
   pub current_slot : slice_index words 0 ≡ d.pointed
   -- of a gate, bits 0 to 15 are the number of actors that are Inside or Visiting the slot, bit 16 is 0 exactly where the slot
   -- is Open, bits 17 to 31 are 0, and the page is the keeper's page of the slot
-  pub gates : (s : ℕ) → s < 4 → slice_index words (gate_word s) ≡ total (in_slot s) views + seal_bit (slot_at d s).phase * 65536 + (slot_at d s).page * 4294967296
+  pub gates : (s : ℕ) → s < SLOTS → slice_index words (gate_place s) ≡ total (in_slot s) views + seal_bit (slot_at d s).phase * 65536 + (slot_at d s).page * 4294967296
   -- the slots, their pages and the collected words fit each other
   pub slots : SlotsFit shape d
   -- each actor fits them
   pub actors : (j : ℕ) (v : View) → get_elem? views j ≡ some v → ActorFits shape d v
   -- the words of a page that stands, the collected ones before `next` and the live ones from there on, are exactly the
   -- marks of the page's entries and the marks that the actors Inside the slot have set so far
-  pub slot_words : (s : ℕ) → s < 4 → HasPage (slot_at d s).phase → (p : ℕ) → p < size shape → (page_bit shape words d s p ≡ 1) ↔ Marked shape views (slot_at d s).page s p
+  pub slot_words : (s : ℕ) → s < SLOTS → HasPage (slot_at d s).phase → (p : ℕ) → p < size shape → (page_bit shape words d s p ≡ 1) ↔ Marked shape views (slot_at d s).page s p
   -- the words of a collected page are exactly the marks of the page's entries
   pub collected_words : (page : ℕ) → page < d.next → IsCollected shape d page → (p : ℕ) → p < size shape → (bit_in (collected_of d page) p ≡ 1) ↔ Recorded shape views page p
   -- the live words before `next` of a Quiet slot are 0
-  pub drained_words : (s : ℕ) → s < 4 → (i : ℕ) → i < taken (slot_at d s).phase → slice_index words (bit_word shape s i) ≡ 0
+  pub drained_words : (s : ℕ) → s < SLOTS → (i : ℕ) → i < taken (slot_at d s).phase → slice_index words (bit_place shape s i) ≡ 0
   -- the words of a Free slot are 0
-  pub free_words : (s : ℕ) → s < 4 → (slot_at d s).phase ≡ Free → (i : ℕ) → i < width shape → slice_index words (bit_word shape s i) ≡ 0
+  pub free_words : (s : ℕ) → s < SLOTS → (slot_at d s).phase ≡ Free → (i : ℕ) → i < width shape → slice_index words (bit_place shape s i) ≡ 0
   -- what each probe read is told by the words and by the keeper's entries
   pub probes : (i : ℕ) (x : Probed) → get_elem? d.probes i ≡ some x → ProbeFits shape words d mine x
   -- the number inside of the gate that the last settle noted is at most the number noted with it
   pub noted : inside_of d.noted ≤ d.noted_with
   -- the passes that are out are those that the keeper counts
   pub out : total is_pass views ≡ d.out
-  -- at most 16 passes are out
-  pub few : d.out ≤ 16
+  -- no more passes are out than there may be
+  pub few : d.out ≤ MOST_PASSES
   -- no two passes have one number
   pub one_number : (i j : ℕ) (v w : View) → get_elem? views i ≡ some v → get_elem? views j ≡ some w → v.role ≡ Pass → w.role ≡ Pass → v.number ≡ w.number → i ≡ j
   -- one actor is the keeper
@@ -271,8 +274,8 @@ pub record PlaneInvariant (shape : PageShape) (words : List ℕ) (views : List V
 
 -- ---- what actors rely on
 
--- At some moment the invariant held, with this view among the views
-pub record Met (shape : PageShape) (v : View) : Type 0 where
+-- At some moment the invariant held, with this view among the views, and the word at a place had this number
+pub record Met (shape : PageShape) (v : View) (at word : ℕ) : Type 0 where
   -- the words and the views of that moment
   pub words : List ℕ
   pub views : List View
@@ -282,11 +285,18 @@ pub record Met (shape : PageShape) (v : View) : Type 0 where
   pub rule : PlaneInvariant shape words views
   -- the view stood there
   pub mine : get_elem? views id ≡ some v
+  -- the word had this number
+  pub reads : slice_index words at ≡ word
+
+-- The pages of these entries never fall along the list, and none is below the floor
+pub record IsRising (floor : ℕ) (entries : List Entry) : Type 0 where
+  pub ordered : (i j : ℕ) (e f : Entry) → i ≤ j → get_elem? entries i ≡ some e → get_elem? entries j ≡ some f → e.page.number ≤ f.page.number
+  pub from_floor : (i : ℕ) (e : Entry) → get_elem? entries i ≡ some e → floor ≤ e.page.number
 
 -- No pass is out, so all entries are those of the keeper, whose view this is
 pub record IsWhole (shape : PageShape) (v : View) : Type 0 where
   -- the words of a collected page are exactly the marks of the keeper's entries of the page
-  pub collected : (page : ℕ) → page < v.duties.next → IsCollected shape v.duties page → (p : ℕ) → p < size shape → (bit_in (collected_of v.duties page) p ≡ 1) ↔ HasMark shape v page p
+  pub collected : (page : ℕ) → page < v.duties.next → IsCollected shape v.duties page → (p : ℕ) → p < size shape → (bit_in (collected_of v.duties page) p ≡ 1) ↔ IsMarked shape v.entries page p
   -- the page of each entry is below the next page
   pub below : (i : ℕ) (e : Entry) → get_elem? v.entries i ≡ some e → e.page.number < v.duties.next
 
@@ -295,11 +305,11 @@ pub record IsAlone (shape : PageShape) (words : List ℕ) (v : View) : Type 0 wh
   -- all entries are the keeper's
   pub whole : IsWhole shape v
   -- the words of a page that stands are exactly the marks of the keeper's entries of the page
-  pub standing : (s : ℕ) → s < 4 → HasPage (slot_at v.duties s).phase → (p : ℕ) → p < size shape → (page_bit shape words v.duties s p ≡ 1) ↔ HasMark shape v (slot_at v.duties s).page p
+  pub standing : (s : ℕ) → s < SLOTS → HasPage (slot_at v.duties s).phase → (p : ℕ) → p < size shape → (page_bit shape words v.duties s p ≡ 1) ↔ IsMarked shape v.entries (slot_at v.duties s).page p
   -- a position that was read as set is a mark of one of the keeper's entries of the page
-  pub probed : (i : ℕ) (x : Probed) → get_elem? v.duties.probes i ≡ some x → x.bit ≡ 1 → HasMark shape v x.page x.at
+  pub probed : (i : ℕ) (x : Probed) → get_elem? v.duties.probes i ≡ some x → x.bit ≡ true → IsMarked shape v.entries x.page x.at
   -- nobody is inside a gate
-  pub nobody : (s : ℕ) → s < 4 → inside_of (slice_index words (gate_word s)) ≡ 0
+  pub nobody : (s : ℕ) → s < SLOTS → inside_of (slice_index words (gate_place s)) ≡ 0
 
 -- ---- the start
 
@@ -308,12 +318,12 @@ pub record IsFresh (shape : PageShape) (words : List ℕ) : Type 0 where
   -- k and n are in their ranges
   pub in_range : IsShape shape
   -- the words are the current-slot word, four gates and the bit words of four slots
-  pub long : length words ≡ 5 + 4 * width shape
+  pub long : length words ≡ word_count shape
   -- slot 0 is current
   pub current_slot : slice_index words 0 ≡ 0
   -- the gate of slot 0 is unsealed, with page 0 and nobody inside
   pub first : slice_index words 1 ≡ 0
   -- the other gates are sealed, with page 0 and nobody inside
-  pub others : (s : ℕ) → 1 ≤ s → s < 4 → slice_index words (gate_word s) ≡ 65536
+  pub others : (s : ℕ) → 1 ≤ s → s < SLOTS → slice_index words (gate_place s) ≡ 65536
   -- no bit is set
   pub rest : (i : ℕ) → 5 ≤ i → slice_index words i ≡ 0

@@ -1,4 +1,4 @@
--- What the machine keeps, as words and views, and what holds of it.
+-- What the machine keeps, as words and views, and what holds of it. No public clause cites this module.
 use Rattle.std.specs.Prelude.{◌≡◌, ℕ, suc, zero, ◌+◌, ◌-◌, ◌*◌, ◌<◌, ◌≤◌, List, [], ◌∷◌, length, map, slice_get, Some, vec_len, vec_capacity, Vec}
 use Rattle.std.specs.declared.alloc.Global.{Global}
 use mathlib.Core.Option.{some}
@@ -6,7 +6,7 @@ use lib.ListN.{get_elem?}
 use Rattle.spie_base.specs.declared.Marks.{Marks}
 use Rattle.spie_base.specs.declared.PageShape.{PageShape}
 use Rattle.hash_family.specs.Positions.{family_of, placed_by}
-use Rattle.gate_core.specs.declared.states.Entry.{Entry}
+use Rattle.spie_base.specs.declared.types.Entry.{Entry}
 use Rattle.gate_core.specs.declared.states.PassState.{PassState}
 use Rattle.gate_core.specs.declared.states.PassState.TheVariants.{Idle, Looked, Inside, Visiting}
 use Rattle.gate_core.specs.declared.states.SlotPhase.{SlotPhase}
@@ -21,6 +21,7 @@ use Rattle.gate_core.specs.Invariant.{PlaneInvariant}
 use Rattle.gate_core.specs.declared.steps.Act.{Act}
 use Rattle.gate_core.specs.declared.steps.StepAnswer.{StepAnswer}
 use Rattle.gate_core.specs.Core.{Core, items_at, Stepped}
+use Rattle.gate_core.specs.declared.limits.TheConstants.{SLOTS}
 
 -- ---- the views
 
@@ -135,7 +136,7 @@ pub record Holds (m : CoreData) : Type 0 where
   pub visits : HasLogRoom m.visits m.room
   pub desk : HasDeskRoom (width m.shape) m.desk m.room
   pub marks : (j : ℕ) (x : Seat) → get_elem? m.seats.items j ≡ some x → HasMarks m.shape x.state x.marks
-  pub families : (s : ℕ) → s < 4 → slice_get m.desk.families s ≡ Some (family_of m.shape (slot_at (duties_of m.desk 0) s).page)
+  pub families : (s : ℕ) → s < SLOTS → slice_get m.desk.families s ≡ Some (family_of m.shape (slot_at (duties_of m.desk 0) s).page)
 
 -- the machine did what the step asks, or nothing, and what holds of it holds again
 pub record DoesAct (m m' : CoreData) (place : ℕ) (a : Act) (reply : StepAnswer) : Type 0 where

@@ -11,3 +11,4 @@ pub mod Sound
 pub mod Start
 pub mod Play
 pub mod PageWords
+pub mod Laws

@@ -5,10 +5,11 @@ use lib.ListN.{get_elem?}
 use Rattle.spie_base.specs.declared.PageShape.{PageShape}
 use Rattle.gate_core.specs.declared.steps.Act.{Act}
 use Rattle.gate_core.specs.declared.states.PassState.TheVariants.{Idle}
-use Rattle.gate_core.specs.declared.states.Entry.{Entry}
+use Rattle.spie_base.specs.declared.types.Entry.{Entry}
 use Rattle.gate_core.specs.Views.{Spent, Pass, Keeper, View, blank, first_keeper}
 use Rattle.gate_core.specs.Acts.{word_of, word_after, view_after, Enabled, dealer_view, dealt_view, gathered_view}
 use Rattle.gate_core.specs.Invariant.{PlaneInvariant}
+use Rattle.gate_core.specs.declared.limits.TheConstants.{MOST_PASSES}
 
 -- The words of a router's pages, and the views of all actors
 pub record Plane : Type 0 where
@@ -46,8 +47,8 @@ view_at plane i = slice_index_or plane.views i blank
 abbrev pub CanMove : PageShape → Plane → Move → Type 0
 -- it is there, it was not gathered, and the act is enabled
 CanMove shape plane (acts i a) = (i < length plane.views) × ¬ ((view_at plane i).role ≡ Spent) × Enabled shape a (view_at plane i)
--- it is the keeper, and fewer than 16 passes are out
-CanMove shape plane (deals k) = (k < length plane.views) × ((view_at plane k).role ≡ Keeper) × ((view_at plane k).duties.out < 16)
+-- it is the keeper, and fewer passes are out than there may be
+CanMove shape plane (deals k) = (k < length plane.views) × ((view_at plane k).role ≡ Keeper) × ((view_at plane k).duties.out < MOST_PASSES)
 -- it is the keeper, and at the other place is a pass that is Idle
 CanMove shape plane (gathers k i) = (k < length plane.views) × ((view_at plane k).role ≡ Keeper) × (i < length plane.views) × ((view_at plane i).role ≡ Pass) × ((view_at plane i).state ≡ Idle)
 

@@ -4,38 +4,20 @@ use Rattle.spie_base.specs.declared.PageShape.{PageShape}
 use Rattle.gate_core.specs.declared.steps.Actor.{Actor}
 use Rattle.gate_core.specs.declared.steps.Actor.TheVariants as actor
 use Rattle.gate_core.specs.declared.steps.Act.{Act}
-use Rattle.gate_core.specs.declared.steps.Act.TheVariants.{Look, Enter, Set, Leave, Seal, Settle, Drain, Point, Probe}
 use Rattle.gate_core.specs.declared.steps.Act.TheVariants as act
 use Rattle.gate_core.specs.declared.steps.Step.{Step}
 use Rattle.gate_core.specs.declared.steps.StepAnswer.{StepAnswer}
-use Rattle.gate_core.specs.Marks.{size}
-use Rattle.gate_core.specs.Core.{Core, place_of, Stepped}
+use Rattle.gate_core.specs.Core.{Core, place_of, may_do, is_within, Stepped}
 
 -- ---- whether a step may stand in a list
-
-abbrev pub is_keeper_actor : Actor → Bool
-is_keeper_actor actor.Keeper = true
-is_keeper_actor (actor.Pass number) = false
 
 abbrev pub is_actor : (passes : ℕ) → Actor → Bool
 is_actor passes actor.Keeper = true
 is_actor passes (actor.Pass number) = nat_lt number passes
 
--- the slot and the position exist, and the keeper's acts are done by the keeper
-abbrev pub is_act_of : PageShape → Actor → Act → Bool
-is_act_of shape who Look = true
-is_act_of shape who (Enter sig) = true
-is_act_of shape who Set = true
-is_act_of shape who Leave = true
-is_act_of shape who Seal = is_keeper_actor who
-is_act_of shape who (Settle s) = is_keeper_actor who && nat_lt s 4
-is_act_of shape who (Drain s) = is_keeper_actor who && nat_lt s 4
-is_act_of shape who (act.Open s) = is_keeper_actor who && nat_lt s 4
-is_act_of shape who Point = is_keeper_actor who
-is_act_of shape who (Probe s p) = is_keeper_actor who && (nat_lt s 4 && nat_lt p (size shape))
-
+-- the actor, the slot and the position exist, and the keeper's acts are done by the keeper
 abbrev pub is_step : PageShape → (passes : ℕ) → Step → Bool
-is_step shape passes step = is_actor passes step.actor && is_act_of shape step.actor step.act
+is_step shape passes step = is_actor passes step.actor && (may_do step.actor step.act && is_within shape step.act)
 
 abbrev pub is_open : Act → Bool
 is_open (act.Open s) = true

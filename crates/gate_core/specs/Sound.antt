@@ -1,4 +1,5 @@
--- What holds of the data of every machine, and what is left as it was where memory is taken.
+-- What holds of the data of every machine, and what is left as it was where memory is taken. No public clause cites this
+-- module.
 use Rattle.std.specs.Prelude.{◌≡◌, ℕ, ◌+◌, ◌<◌, ◌≤◌, List, [], length, All, vec_len, vec_capacity, Vec}
 use Rattle.std.specs.declared.alloc.Global.{Global}
 use mathlib.Core.Option.{some}

@@ -1,4 +1,4 @@
--- What an act writes: items in a log, a word, and a seat.
+-- What an act writes: items in a log, a word, and a seat. No public clause cites this module.
 use Rattle.std.specs.Prelude.{◌≡◌, ℕ, ◌+◌, ◌-◌, ◌==◌, if◌then◌else◌, List, [], ◌++◌, length, map, slice_index_or, slice_set, vec_capacity}
 use Rattle.gate_core.specs.declared.states.PassState.{PassState}
 use Rattle.gate_core.specs.declared.states.PassState.TheVariants.{Idle}

@@ -2,10 +2,10 @@
 ghost use Rattle.std.specs.Prelude.{◌≡◌, ◌<◌, ◌≤◌, [], ◌∷◌, vec_len, vec_capacity};
 ghost use Rattle.gate_core.specs.Writes.{Grows};
 
+use crate::PassState;
 use crate::view::{Probed, Slot, Visit};
-use crate::{Entry, PassState};
 use hash_family::Family;
-use spie_base::{Marks, PageShape};
+use spie_base::{Entry, Marks, PageShape};
 
 /// An actor: where it is in a record, and the signature's marks while it is inside.
 #[derive(Clone, Copy)]

@@ -2,18 +2,20 @@
 ghost use Rattle.std.specs.Prelude.{◌≡◌, ◌≤◌, ◌<◌, ◌↔◌, ◌⊎◌, ℕ, max, IfOk, OnOk, OnErr, IsSome, IfSome, length, slice_index};
 ghost use Rattle.std.specs.List.{Contains};
 ghost use Rattle.bloom_page.specs.Bits.{members_of};
-ghost use Rattle.gate_core.specs.Marks.{IsShape};
+ghost use Rattle.spie_base.specs.Shapes.{IsShape};
 ghost use Rattle.gate_core.specs.Views.{slot_at, collected_of};
-ghost use Rattle.gate_core.specs.Acts.{page_of, numbered, gate_word};
+ghost use Rattle.gate_core.specs.Acts.{page_of, numbered, gate_place};
 ghost use Rattle.gate_core.specs.Invariant.{PlaneInvariant, IsCollected};
 ghost use Rattle.gate_core.specs.Core.{place_of, duties_of, IsLogged, CanStep, Stepped};
 ghost use Rattle.gate_core.specs.Start.{start_of};
-ghost use Rattle.gate_core.specs.PageWords.{page_words, IsMarkOf, IsSetInside};
+ghost use Rattle.gate_core.specs.PageWords.{page_words, phase_with, IsSetInside};
+ghost use Rattle.hash_family.specs.Entries.{IsMarked};
+ghost use Rattle.gate_core.specs.declared.limits.TheConstants.{MOST_PASSES, SLOTS};
 
 use crate::core_data::CoreData;
 use crate::initial::first_data;
-use crate::{Entry, SlotPhase, Step, StepAnswer};
-use spie_base::{NoMemory, PageNo, PageShape};
+use crate::{SlotPhase, Step, StepAnswer};
+use spie_base::{Entry, NoMemory, PageNo, PageShape};
 use std::alloc::Global;
 use std::marker::Model;
 
@@ -42,7 +44,7 @@ impl CoreState {
     pub fn start(alloc: Global, shape: PageShape, passes: u32) -> Result<CoreState, NoMemory>
         requires shape { IsShape shape }
         requires some_pass { 1 ≤ passes }
-        requires few_passes { passes ≤ 16 }
+        requires few_passes { passes ≤ MOST_PASSES }
         ensures { IfOk result (λ c. c ≡ start_of shape passes) }
     {
         Ok(CoreState {
@@ -87,23 +89,30 @@ impl CoreState {
         // Its bits are the marks of its finished entries.
         ensures marks { IfSome result (λ words. (p : ℕ)
             → Contains (members_of words.now) p
-            ↔ IsMarkOf self.now.shape page.number self.now.entries p) }
+            ↔ IsMarked self.now.shape self.now.entries page.number p) }
     {
         self.kept.collected(page)
     }
 
     /// Where the slot is in its life.
     pub fn phase(&self, slot: u8) -> SlotPhase
-        requires { slot < 4 }
+        requires { slot < SLOTS }
         ensures { result ≡ (slot_at (duties_of self.now) slot).phase }
     {
         self.kept.desk.slots[usize::from(slot)].phase
     }
 
+    /// Where the page is in its life, while it stands in a slot. Costs a look at four slots.
+    pub fn phase_of(&self, page: PageNo) -> Option<SlotPhase>
+        ensures { result ≡ phase_with self.now page.number }
+    {
+        self.kept.phase_of(page)
+    }
+
     /// The page in the slot's gate: the last that was opened there, or 0.
     pub fn slot_page(&self, slot: u8) -> PageNo
-        requires { slot < 4 }
-        ensures gate { result ≡ numbered (page_of (slice_index self.now.words (gate_word slot))) }
+        requires { slot < SLOTS }
+        ensures gate { result ≡ numbered (page_of (slice_index self.now.words (gate_place slot))) }
         ensures last { result ≡ numbered (slot_at (duties_of self.now) slot).page }
     {
         self.kept.gate_page(slot)
@@ -126,14 +135,15 @@ impl CoreState {
         // They are the marks of its finished entries, and those that records inside have set so far.
         ensures marks { (p : ℕ)
             → Contains (members_of (page_words self.now page.number)) p
-            ↔ (IsMarkOf self.now.shape page.number self.now.entries p
+            ↔ (IsMarked self.now.shape self.now.entries page.number p
             ⊎ IsSetInside self.now.shape page.number self.now.views p) }
     {
         self.kept.bits_of(page)
     }
 
-    // The words and views of every machine meet the plane invariant, and its entries are those of the views.
-    pub(crate) fn is_sound(&self)
+    /// The words and the views of every machine meet the plane invariant, and its finished entries are those of the views. It does
+    /// nothing: a proof calls it for what it ensures.
+    pub fn is_sound(&self)
         ensures invariant { PlaneInvariant self.now.shape self.now.words self.now.views }
         ensures logged { IsLogged self.now }
     {

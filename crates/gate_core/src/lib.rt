@@ -8,32 +8,29 @@
 //! machine `specs/Core.antt` and `core_state`.
 #![tactic(auto)]
 
-mod acting;
+mod acts;
 mod core_data;
-mod core_laws;
 mod core_state;
-mod desk_changes;
-mod gate_word;
+pub mod gate_word;
 mod initial;
-mod keeper_acts;
-mod keeper_changes;
 mod laws;
+mod limits;
 mod playing;
 mod readers;
-mod record_acts;
 mod reserving;
 mod states;
 mod steps;
-#[cfg(test)]
-mod tests;
 pub mod view;
 
-pub use core_laws::{entries_stay, entries_stay_played, keeps_invariant, one_play};
+pub use acts::{family_of, open_slot};
 pub use core_state::CoreState;
+pub use initial::first_words;
 pub use laws::{
-    floors_hold, keeper_alone_has_all, pages_have_one_place, probes_tell_what_is_set,
-    runs_keep_entries, runs_keep_the_invariant, settles_tell_who_is_inside, words_are_the_marks,
+    entries_stay, floors_hold, keeper_alone_has_all, keeper_reads_its_own, one_play,
+    pages_have_one_place, probes_tell_what_is_set, runs_keep_entries, runs_keep_the_invariant,
+    settles_tell_who_is_inside, words_are_the_marks,
 };
+pub use limits::{MOST_PASSES, NO_SLOT, SLOTS};
 pub use playing::{Played, play};
-pub use states::{ActorState, Entry, PassState, SlotPhase};
+pub use states::{ActorState, PassState, SlotPhase};
 pub use steps::{Act, Actor, Step, StepAnswer};

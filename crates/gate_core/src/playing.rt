@@ -1,9 +1,10 @@
 // A list of steps, done from the start.
 ghost use Rattle.std.specs.Prelude.{◌≡◌, ◌≤◌, ◌<◌, ◌+◌, ◌^◌, IsTrue, IfOk, length, count_by};
 ghost use Rattle.std.specs.List.{list_all};
-ghost use Rattle.gate_core.specs.Marks.{IsShape};
+ghost use Rattle.spie_base.specs.Shapes.{IsShape};
 ghost use Rattle.gate_core.specs.Start.{start_of};
 ghost use Rattle.gate_core.specs.Play.{is_step, opens_page, IsPlayed};
+ghost use Rattle.gate_core.specs.declared.limits.TheConstants.{MOST_PASSES};
 
 use crate::{CoreState, Step, StepAnswer};
 use spie_base::{List, NoMemory, PageShape};
@@ -25,7 +26,7 @@ pub fn play(
 ) -> Result<Played, NoMemory>
     requires shape { IsShape shape }
     requires some_pass { 1 ≤ passes }
-    requires few_passes { passes ≤ 16 }
+    requires few_passes { passes ≤ MOST_PASSES }
     requires steps { IsTrue (list_all (is_step shape passes) steps.now) }
     requires pages { count_by opens_page steps.now + 1 < 2 ^ 32 }
     ensures { IfOk result (λ played. let begin = record (start_of shape passes) { room = length steps.now } in

@@ -4,12 +4,13 @@ ghost use Rattle.std.specs.Option.{ForSome};
 ghost use Rattle.bloom_page.specs.Bits.{members_of};
 ghost use Rattle.gate_core.specs.Marks.{width};
 ghost use Rattle.gate_core.specs.Views.{slot_at, collected_of};
-ghost use Rattle.gate_core.specs.Acts.{page_of, numbered, gate_word};
+ghost use Rattle.gate_core.specs.Acts.{page_of, numbered, gate_place};
 ghost use Rattle.gate_core.specs.Invariant.{IsCollected};
-ghost use Rattle.gate_core.specs.Core.{duties_of, live_words};
+ghost use Rattle.gate_core.specs.Core.{duties_of};
 ghost use Rattle.gate_core.specs.Kept.{core_of};
 ghost use Rattle.gate_core.specs.Sound.{IsSound};
-ghost use Rattle.gate_core.specs.PageWords.{stands_with, live_from, page_words};
+ghost use Rattle.gate_core.specs.PageWords.{stands_with, live_from, page_words, phase_with};
+ghost use Rattle.gate_core.specs.declared.limits.TheConstants.{SLOTS};
 
 use crate::SlotPhase;
 use crate::core_data::CoreData;
@@ -32,9 +33,9 @@ impl CoreData {
     /// The page in the slot's gate.
     pub(crate) fn gate_page(&self, slot: u8) -> PageNo
         requires sound { IsSound self.now }
-        requires near { slot < 4 }
+        requires near { slot < SLOTS }
         ensures gate { result
-            ≡ numbered (page_of (slice_index self.now.words.items (gate_word slot))) }
+            ≡ numbered (page_of (slice_index self.now.words.items (gate_place slot))) }
         ensures last { result ≡ numbered (slot_at (duties_of (core_of self.now)) slot).page }
     {
         page(self.word_at(gate_at(slot)))
@@ -78,10 +79,21 @@ impl CoreData {
             .position(|slot| stands_with(slot, page.number))
     }
 
+    /// The phase of the slot in which the page stands.
+    pub(crate) fn phase_of(&self, page: PageNo) -> Option<SlotPhase>
+        requires { IsSound self.now }
+        ensures { result ≡ phase_with (core_of self.now) page.number }
+    {
+        match self.slot_with(page) {
+            Some(slot) => Some(self.desk.slots[slot].phase),
+            None => None,
+        }
+    }
+
     // The live words of a slot from one on.
     fn live_from(&self, slot: Option<usize>, from: usize) -> &[u64]
         requires sound { IsSound self.now }
-        requires near { ForSome slot (λ s. s < 4) }
+        requires near { ForSome slot (λ s. s < SLOTS) }
         requires within { from ≤ width self.now.shape }
         ensures words { result.now ≡ live_from (core_of self.now) slot from }
         ensures few { length result.now ≤ 1024 }

@@ -1,13 +1,6 @@
 // Where actors and slots are.
 use spie_base::{PageNo, Sig};
 
-/// A finished record: a signature in the page that it entered.
-#[derive(Clone, Copy, PartialEq, Eq, Debug)]
-pub struct Entry {
-    pub page: PageNo,
-    pub sig: Sig,
-}
-
 /// Where an actor is in the middle of a record.
 #[derive(Clone, Copy, PartialEq, Eq, Debug)]
 pub enum PassState {

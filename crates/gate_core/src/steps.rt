@@ -1,4 +1,6 @@
 // Who acts, and how.
+ghost use Rattle.std.specs.Prelude.{◌≡◌};
+ghost use Rattle.gate_core.specs.Core.{may_do};
 
 use crate::ActorState;
 use spie_base::{PageNo, Sig};
@@ -34,6 +36,18 @@ pub enum Act {
     Point,
     /// Loads the bit word of a slot, 0 to 3, with this position, below 2^n.
     Probe(u8, u32),
+}
+
+impl Actor {
+    /// Whether this actor may do the act: the last six are the keeper's alone.
+    pub fn may_do(self, act: Act) -> bool
+        ensures { result ≡ may_do self act }
+    {
+        match self {
+            Actor::Keeper => true,
+            Actor::Pass(_) => matches!(act, Act::Look | Act::Enter(_) | Act::Set | Act::Leave),
+        }
+    }
 }
 
 /// An act and who does it.

@@ -1,7 +1,7 @@
 // What an actor knows of the words. Contracts speak of `View` and `Duties`; the machine keeps the same in seats,
 // logs and a desk (`core_data`), and makes no value of these two.
-use crate::{Entry, PassState, SlotPhase};
-use spie_base::List;
+use crate::{PassState, SlotPhase};
+use spie_base::{Entry, List};
 
 /// An entry into a sealed gate: the slot, and the gate word that was read.
 #[derive(Clone, Copy, PartialEq, Eq, Debug)]
@@ -15,7 +15,7 @@ pub struct Visit {
 pub struct Probed {
     pub page: u32,
     pub at: u32,
-    pub bit: u8,
+    pub bit: bool,
     pub known: u64,
 }
 

@@ -17,18 +17,21 @@ use Rattle.play_script.specs.Reading.{alone_in, enter_in, slot_in, probe_fields,
 use Rattle.play_script.specs.Said.{Said}
 use Rattle.play_script.specs.Said as said
 use Rattle.play_script.specs.Script.{is_over_limit}
-use Rattle.play_script.specs.Spelling.{Spells, SpellsAct, IsActor, may_do}
-use Rattle.play_script.specs.Words.{word_text, word_done, may_stand}
+use Rattle.play_script.specs.Spelling.{Spells, SpellsAct, IsActor}
+use Rattle.gate_core.specs.Core.{may_do}
+use Rattle.play_script.specs.Words.{word_text, word_done, may_come}
 use Rattle.play_script.specs.declared.script.PlayScript.{PlayScript}
 use Rattle.play_script.specs.declared.words.Stage.{Stage}
 use Rattle.play_script.specs.declared.words.Stage.TheVariants as stage
+use Rattle.gate_core.specs.declared.limits.TheConstants.{MOST_PASSES, SLOTS}
+use Rattle.play_script.specs.declared.script.TheConstants.{CORE_N_MOST}
 
 -- passes and positions are few enough for the reading of numbers
 pub record IsNarrow (far : PlayScript) : Type 0 where
-  pub few_passes : far.passes ≤ 16
-  pub n_most : far.shape.n ≤ 16
+  pub few_passes : far.passes ≤ MOST_PASSES
+  pub n_most : far.shape.n ≤ CORE_N_MOST
 
-positions_fit : (n : ℕ) → n ≤ 16 → 2 ^ n ≤ 2 ^ 32
+positions_fit : (n : ℕ) → n ≤ CORE_N_MOST → 2 ^ n ≤ 2 ^ 32
 positions_fit n h = let p : 2 ^ n ≤ 2 ^ 16 = pow_mono h in omega (arith, p)
 
 -- an act is read from its word and the fields behind it
@@ -37,18 +40,18 @@ pub record ActAgain (shape : PageShape) (a : Act) (fields : List (List ℕ)) : T
   pub are : fields ≡ word_text (word_done a) ∷ rest
   pub reads : act_in (2 ^ shape.n) (word_done a) rest ≡ Ok a
 
-act_again : (shape : PageShape) (a : Act) (fields : List (List ℕ)) → shape.n ≤ 16 → SpellsAct shape a fields → ActAgain shape a fields
+act_again : (shape : PageShape) (a : Act) (fields : List (List ℕ)) → shape.n ≤ CORE_N_MOST → SpellsAct shape a fields → ActAgain shape a fields
 unfolding act_in alone_in enter_in slot_in probe_in probe_fields
 act_again shape act.Look fields n s = record { rest = []; are = s; reads = refl }
 act_again shape (act.Enter sig) fields n s = record { rest = s.0 ∷ []; are = s.1; reads = rw (sig_again s.0 sig s.2) refl }
 act_again shape act.Set fields n s = record { rest = []; are = s; reads = refl }
 act_again shape act.Leave fields n s = record { rest = []; are = s; reads = refl }
 act_again shape act.Seal fields n s = record { rest = []; are = s; reads = refl }
-act_again shape (act.Settle slot) fields n s = record { rest = decimal slot ∷ []; are = s.0; reads = rw (below_again 4 slot (omega arith) s.1) refl }
-act_again shape (act.Drain slot) fields n s = record { rest = decimal slot ∷ []; are = s.0; reads = rw (below_again 4 slot (omega arith) s.1) refl }
-act_again shape (act.Open slot) fields n s = record { rest = decimal slot ∷ []; are = s.0; reads = rw (below_again 4 slot (omega arith) s.1) refl }
+act_again shape (act.Settle slot) fields n s = record { rest = decimal slot ∷ []; are = s.0; reads = rw (below_again SLOTS slot (omega arith) s.1) refl }
+act_again shape (act.Drain slot) fields n s = record { rest = decimal slot ∷ []; are = s.0; reads = rw (below_again SLOTS slot (omega arith) s.1) refl }
+act_again shape (act.Open slot) fields n s = record { rest = decimal slot ∷ []; are = s.0; reads = rw (below_again SLOTS slot (omega arith) s.1) refl }
 act_again shape act.Point fields n s = record { rest = []; are = s; reads = refl }
-act_again shape (act.Probe slot at) fields n s = record { rest = decimal slot ∷ decimal at ∷ []; are = s.0; reads = rw (below_again 4 slot (omega arith) s.1, below_again (2 ^ shape.n) at (positions_fit shape.n n) s.2) refl }
+act_again shape (act.Probe slot at) fields n s = record { rest = decimal slot ∷ decimal at ∷ []; are = s.0; reads = rw (below_again SLOTS slot (omega arith) s.1, below_again (2 ^ shape.n) at (positions_fit shape.n n) s.2) refl }
 
 -- the line is taken, unless it is over the limit
 abbrev pub taken : Known → PlayScript → Said → Result Known WhyRefused
@@ -69,7 +72,7 @@ unfolding line_at step_line by_word pushed
 step_line_again read far step who rest e = rw (word_again (word_done step.act), e) refl
 
 -- a line that says something is judged by how many steps there are
-pub spelled_reads : (here : Stage) (read : ℕ) (far : PlayScript) (s : Said) (fields : List (List ℕ)) → IsNarrow far → may_stand here s ≡ true → Spells far s fields → line_at here (known_at here read far) fields ≡ taken (known_at here read far) far s
+pub spelled_reads : (here : Stage) (read : ℕ) (far : PlayScript) (s : Said) (fields : List (List ℕ)) → IsNarrow far → may_come here s ≡ true → Spells far s fields → line_at here (known_at here read far) fields ≡ taken (known_at here read far) far s
 unfolding line_at version_line version_rest core_line core_rest core_fields step_line end_line
 spelled_reads stage.Version read far said.Version fields narrow m s = at_fields stage.Version (known_at stage.Version read far) far said.Version fields _ s refl
 spelled_reads stage.Core read far (said.Core passes shape) fields narrow m s = at_fields stage.Core (known_at stage.Core read far) far (said.Core passes shape) fields _ s.1 (rw (number_again 1 16 passes (lit< tt) s.2 s.3, shape_again s.0 shape s.4 s.5 s.6) refl)

@@ -3,18 +3,18 @@ use Rattle.std.proofs.Common.{ℕ, ◌≡◌, ◌≤◌, List, [], ◌∷◌, le
 use Rattle.std.proofs.lemmas.Bool.Decides.{nat_tests}
 use Rattle.trace_format.specs.Limits.{most_bytes}
 use Rattle.trace_format.specs.Text.{lines}
-use Rattle.play_script.proofs.Standing.{narrow}
+use Rattle.play_script.proofs.SoundLines.{narrow}
 use Rattle.play_script.proofs.Taken.{line_again}
 use Rattle.play_script.specs.Before.{known_of}
 use Rattle.play_script.specs.Reading.{read_lines, known_in, read_of}
 use Rattle.play_script.specs.Said.{Said}
 use Rattle.play_script.specs.Script.{Begins, IsLine, IsScript}
-use Rattle.play_script.specs.Words.{stage_of, may_stand, is_over}
+use Rattle.play_script.specs.Words.{stage_of, may_come, is_over}
 use Rattle.play_script.specs.declared.script.PlayScript.{PlayScript}
 use Rattle.play_script.specs.declared.words.Stage.{Stage}
 use Rattle.play_script.specs.declared.words.Stage.TheVariants as stage
 
-not_over : (here : Stage) (s : Said) → may_stand here s ≡ true → is_over here ≡ false
+not_over : (here : Stage) (s : Said) → may_come here s ≡ true → is_over here ≡ false
 not_over stage.Version s e = refl
 not_over stage.Core s e = refl
 not_over stage.Steps s e = refl

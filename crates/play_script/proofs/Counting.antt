@@ -18,6 +18,7 @@ use Rattle.play_script.specs.Said as said
 use Rattle.play_script.specs.declared.words.Stage.{Stage}
 use Rattle.play_script.specs.declared.words.Stage.TheVariants as stage
 use Rattle.play_script.specs.declared.words.Word.{Word}
+use Rattle.gate_core.specs.declared.limits.TheConstants.{MOST_PASSES}
 
 abbrev Rises : Known → Result Known WhyRefused → Type 0
 Rises known (Ok new) = new.read ≡ known.read + 1
@@ -50,7 +51,7 @@ core_rises known [] = tt
 core_rises known (a ∷ []) = tt
 core_rises known (a ∷ b ∷ []) = tt
 core_rises known (a ∷ b ∷ c ∷ []) = tt
-core_rises known (a ∷ b ∷ c ∷ d ∷ []) = rises_then known (number a 1 16) (λ v. shape_in b c d >>= (λ shape. Ok (grown known (said.Core v shape)))) (λ v. rises_then known (shape_in b c d) (λ shape. Ok (grown known (said.Core v shape))) (λ shape. grown_rises known (said.Core v shape)))
+core_rises known (a ∷ b ∷ c ∷ d ∷ []) = rises_then known (number a 1 MOST_PASSES) (λ v. shape_in b c d >>= (λ shape. Ok (grown known (said.Core v shape)))) (λ v. rises_then known (shape_in b c d) (λ shape. Ok (grown known (said.Core v shape))) (λ shape. grown_rises known (said.Core v shape)))
 core_rises known (a ∷ b ∷ c ∷ d ∷ x ∷ xs) = tt
 
 pushed_rises : (known : Known) (step : Step) → Rises known (pushed known step)

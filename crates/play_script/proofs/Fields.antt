@@ -6,7 +6,9 @@ use Rattle.std.specs.Bool.{Decides}
 use Rattle.std.specs.Fmt.{decimal}
 use Rattle.std.specs.Prelude.{codes}
 use Rattle.std.specs.Str.{bytes_eq}
-use Rattle.gate_core.specs.Marks.{IsShape}
+use Rattle.play_script.specs.Limits.{IsCore}
+use Rattle.spie_base.specs.declared.types.TheConstants.{K_MOST, N_LEAST}
+use Rattle.play_script.specs.declared.script.TheConstants.{CORE_N_MOST}
 use Rattle.gate_core.specs.declared.steps.Actor.{Actor}
 use Rattle.gate_core.specs.declared.steps.Actor.TheVariants as actor
 use Rattle.hex.specs.Hex.{decode_sized}
@@ -115,7 +117,7 @@ actor_again passes (actor.Pass n) field small e = actor_again_by passes field n 
 pub record IsSpelled (k n base : List ℕ) (shape : PageShape) : Type 0 where
   pub k_is : k ≡ decimal shape.k
   pub n_is : n ≡ decimal shape.n
-  pub in_range : IsShape shape
+  pub in_range : IsCore shape
   pub base_is : IsBase base shape.base
   pub router : shape.router.number ≡ 0
 
@@ -125,12 +127,12 @@ shape_of k n base = record { k = k; n = n; base = base; router = record { number
 pub shape_meets : (k n base : List ℕ) → FieldMeets (λ shape. IsSpelled k n base shape) (shape_in k n base)
 unfolding shape_in
 shape_meets k n base =
-    bound (λ v. IsNumber k 1 8 v) (λ r. FieldMeets (λ shape. IsSpelled k n base shape) r) (number k 1 8) _ (number_meets k 1 8 (lit< tt)) (λ a p.
-    bound (λ v. IsNumber n 6 16 v) (λ r. FieldMeets (λ shape. IsSpelled k n base shape) r) (number n 6 16) _ (number_meets n 6 16 (lit< tt)) (λ b q.
+    bound (λ v. IsNumber k 1 K_MOST v) (λ r. FieldMeets (λ shape. IsSpelled k n base shape) r) (number k 1 K_MOST) _ (number_meets k 1 K_MOST (lit< tt)) (λ a p.
+    bound (λ v. IsNumber n N_LEAST CORE_N_MOST v) (λ r. FieldMeets (λ shape. IsSpelled k n base shape) r) (number n N_LEAST CORE_N_MOST) _ (number_meets n N_LEAST CORE_N_MOST (lit< tt)) (λ b q.
     bound (λ v. IsBase base v) (λ r. FieldMeets (λ shape. IsSpelled k n base shape) r) (base_of base) _ (base_meets base) (λ c s.
-    record { k_is = p.is; n_is = q.is; in_range = record { k_least = p.low; k_most = p.high; n_least = q.low; n_most = q.high }; base_is = s; router = refl }) refl) refl) refl
+    record { k_is = p.is; n_is = q.is; in_range = record { in_range = record { k_least = p.low; k_most = p.high; n_least = q.low; n_most = let h = q.high in omega arith }; n_most = q.high }; base_is = s; router = refl }) refl) refl) refl
 
-pub shape_again : (base : List ℕ) (shape : PageShape) → IsShape shape → IsBase base shape.base → shape.router.number ≡ 0 → shape_in (decimal shape.k) (decimal shape.n) base ≡ Ok shape
+pub shape_again : (base : List ℕ) (shape : PageShape) → IsCore shape → IsBase base shape.base → shape.router.number ≡ 0 → shape_in (decimal shape.k) (decimal shape.n) base ≡ Ok shape
 unfolding shape_in
 shape_again base shape r b z =
-    rw (number_again 1 8 shape.k (lit< tt) r.k_least r.k_most, number_again 6 16 shape.n (lit< tt) r.n_least r.n_most, base_again base shape.base b) (rw (← z) refl)
+    rw (number_again 1 K_MOST shape.k (lit< tt) r.in_range.k_least r.in_range.k_most, number_again N_LEAST CORE_N_MOST shape.n (lit< tt) r.in_range.n_least r.n_most, base_again base shape.base b) (rw (← z) refl)

@@ -6,7 +6,7 @@ pub mod Fields
 pub mod Lines
 pub mod Meets
 pub mod Sole
-pub mod Standing
+pub mod SoundLines
 pub mod Taken
 pub mod Whole
 pub mod Wording

@@ -25,14 +25,16 @@ use Rattle.play_script.specs.Reading.{below, sig_of, actor_in, shape_in, alone_i
 use Rattle.play_script.specs.Said.{Said}
 use Rattle.play_script.specs.Said as said
 use Rattle.play_script.specs.Script.{is_over_limit}
-use Rattle.play_script.specs.Spelling.{Spells, SpellsAct, IsActor, IsSig, may_do}
+use Rattle.play_script.specs.Spelling.{Spells, SpellsAct, IsActor, IsSig}
+use Rattle.gate_core.specs.Core.{may_do}
 use Rattle.play_script.specs.Words as words
-use Rattle.play_script.specs.Words.{word_text, may_stand, is_over}
+use Rattle.play_script.specs.Words.{word_text, may_come, is_over}
 use Rattle.play_script.specs.declared.script.PlayScript.{PlayScript}
 use Rattle.play_script.specs.declared.words.Stage.{Stage}
 use Rattle.play_script.specs.declared.words.Stage.TheVariants as stage
 use Rattle.play_script.specs.declared.words.Word.{Word}
 use Rattle.play_script.specs.declared.words.Word.TheVariants as word
+use Rattle.gate_core.specs.declared.limits.TheConstants.{MOST_PASSES, SLOTS}
 
 -- ---- an act
 
@@ -57,20 +59,20 @@ act_meets who shape word.Leave (a ∷ more) = λ q. omega arith
 act_meets who shape word.Seal [] = (refl, refl)
 act_meets who shape word.Seal (a ∷ more) = λ q. omega arith
 act_meets who shape word.Settle [] = λ q. omega arith
-act_meets who shape word.Settle (a ∷ []) = bound (λ n. IsBelow a 4 n) (λ r. ActMeets who shape word.Settle (a ∷ []) r) (below a 4) (λ n. Ok (act.Settle n)) (below_meets a 4) (λ n h. ((ap (λ z. codes "settle" ∷ z ∷ []) h.is, h.under), refl)) refl
+act_meets who shape word.Settle (a ∷ []) = bound (λ n. IsBelow a SLOTS n) (λ r. ActMeets who shape word.Settle (a ∷ []) r) (below a SLOTS) (λ n. Ok (act.Settle n)) (below_meets a SLOTS) (λ n h. ((ap (λ z. codes "settle" ∷ z ∷ []) h.is, h.under), refl)) refl
 act_meets who shape word.Settle (a ∷ b ∷ more) = λ q. omega arith
 act_meets who shape word.Drain [] = λ q. omega arith
-act_meets who shape word.Drain (a ∷ []) = bound (λ n. IsBelow a 4 n) (λ r. ActMeets who shape word.Drain (a ∷ []) r) (below a 4) (λ n. Ok (act.Drain n)) (below_meets a 4) (λ n h. ((ap (λ z. codes "drain" ∷ z ∷ []) h.is, h.under), refl)) refl
+act_meets who shape word.Drain (a ∷ []) = bound (λ n. IsBelow a SLOTS n) (λ r. ActMeets who shape word.Drain (a ∷ []) r) (below a SLOTS) (λ n. Ok (act.Drain n)) (below_meets a SLOTS) (λ n h. ((ap (λ z. codes "drain" ∷ z ∷ []) h.is, h.under), refl)) refl
 act_meets who shape word.Drain (a ∷ b ∷ more) = λ q. omega arith
 act_meets who shape word.Open [] = λ q. omega arith
-act_meets who shape word.Open (a ∷ []) = bound (λ n. IsBelow a 4 n) (λ r. ActMeets who shape word.Open (a ∷ []) r) (below a 4) (λ n. Ok (act.Open n)) (below_meets a 4) (λ n h. ((ap (λ z. codes "open" ∷ z ∷ []) h.is, h.under), refl)) refl
+act_meets who shape word.Open (a ∷ []) = bound (λ n. IsBelow a SLOTS n) (λ r. ActMeets who shape word.Open (a ∷ []) r) (below a SLOTS) (λ n. Ok (act.Open n)) (below_meets a SLOTS) (λ n h. ((ap (λ z. codes "open" ∷ z ∷ []) h.is, h.under), refl)) refl
 act_meets who shape word.Open (a ∷ b ∷ more) = λ q. omega arith
 act_meets who shape word.Point [] = (refl, refl)
 act_meets who shape word.Point (a ∷ more) = λ q. omega arith
 act_meets who shape word.Probe [] = λ q. omega arith
 act_meets who shape word.Probe (a ∷ []) = λ q. omega arith
 act_meets who shape word.Probe (a ∷ b ∷ []) =
-    bound (λ n. IsBelow a 4 n) (λ r. ActMeets who shape word.Probe (a ∷ b ∷ []) r) (below a 4) (λ n. below b (2 ^ shape.n) >>= (λ m. Ok (act.Probe n m))) (below_meets a 4) (λ n h.
+    bound (λ n. IsBelow a SLOTS n) (λ r. ActMeets who shape word.Probe (a ∷ b ∷ []) r) (below a SLOTS) (λ n. below b (2 ^ shape.n) >>= (λ m. Ok (act.Probe n m))) (below_meets a SLOTS) (λ n h.
     bound (λ m. IsBelow b (2 ^ shape.n) m) (λ r. ActMeets who shape word.Probe (a ∷ b ∷ []) r) (below b (2 ^ shape.n)) (λ m. Ok (act.Probe n m)) (below_meets b (2 ^ shape.n)) (λ m g.
     ((ap (λ z. codes "probe" ∷ z ∷ b ∷ []) h.is ∙ ap (λ z. codes "probe" ∷ decimal n ∷ z ∷ []) g.is, h.under, g.under), refl)) refl) refl
 act_meets who shape word.Probe (a ∷ b ∷ c ∷ more) = λ q. omega arith
@@ -107,7 +109,7 @@ known_at here read far = record { stage = here; read = read; passes = far.passes
 -- a line that was taken
 pub record Taken (here : Stage) (far : PlayScript) (known : Known) (fields : List (List ℕ)) (new : Known) : Type 0 where
   pub said : Said
-  pub comes : may_stand here said ≡ true
+  pub comes : may_come here said ≡ true
   pub spelled : Spells far said fields
   pub fits : is_over_limit far said ≡ false
   pub grows : new ≡ grown known said
@@ -115,7 +117,7 @@ pub record Taken (here : Stage) (far : PlayScript) (known : Known) (fields : Lis
 -- the right number of fields
 pub record IsCounted (here : Stage) (fields : List (List ℕ)) : Type 0 where
   pub form : Form
-  pub stands : HasWord here form fields
+  pub has_word : HasWord here form fields
   pub count : length fields ≡ arity form
 
 abbrev pub Reason : Stage → PlayScript → List (List ℕ) → WhyRefused → Type 0
@@ -132,13 +134,13 @@ Meets here far known fields (Err y) = Reason here far fields y
 -- the first line
 version_by : (far : PlayScript) (known : Known) (w v : List ℕ) (b : Bool) → w ≡ codes "spie-play" → bytes_eq v (codes "1") ≡ b → Meets stage.Version far known (w ∷ v ∷ []) (cond b (Ok (grown known said.Version)) (Err why.Field))
 version_by far known w v true is e = record { said = said.Version; comes = refl; spelled = ap (λ z. z ∷ v ∷ []) is ∙ ap (λ z. codes "spie-play" ∷ z ∷ []) (same v (codes "1") e); fits = refl; grows = refl }
-version_by far known w v false is e = record { form = form.Version; stands = (v ∷ [], ap (λ z. z ∷ v ∷ []) is); count = refl }
+version_by far known w v false is e = record { form = form.Version; has_word = (v ∷ [], ap (λ z. z ∷ v ∷ []) is); count = refl }
 
 version_rest_meets : (far : PlayScript) (known : Known) (w : List ℕ) (rest : List (List ℕ)) → w ≡ codes "spie-play" → Meets stage.Version far known (w ∷ rest) (version_rest known rest)
 unfolding version_rest
-version_rest_meets far known w [] is = record { form = form.Version; stands = ([], ap (λ z. z ∷ []) is); other = λ q. omega arith }
+version_rest_meets far known w [] is = record { form = form.Version; has_word = ([], ap (λ z. z ∷ []) is); other = λ q. omega arith }
 version_rest_meets far known w (v ∷ []) is = version_by far known w v _ is refl
-version_rest_meets far known w (v ∷ x ∷ xs) is = record { form = form.Version; stands = (v ∷ x ∷ xs, ap (λ z. z ∷ v ∷ x ∷ xs) is); other = λ q. omega arith }
+version_rest_meets far known w (v ∷ x ∷ xs) is = record { form = form.Version; has_word = (v ∷ x ∷ xs, ap (λ z. z ∷ v ∷ x ∷ xs) is); other = λ q. omega arith }
 
 version_line_by : (far : PlayScript) (known : Known) (w : List ℕ) (rest : List (List ℕ)) (b : Bool) → bytes_eq w (codes "spie-play") ≡ b → Meets stage.Version far known (w ∷ rest) (cond b (version_rest known rest) (Err why.Word))
 version_line_by far known w rest true e = version_rest_meets far known w rest (same w (codes "spie-play") e)
@@ -160,13 +162,13 @@ core_is w p k n base passes shape is e s =
 core_fields_meet : (far : PlayScript) (known : Known) (w p k n base : List ℕ) → w ≡ codes "core" → Meets stage.Core far known (w ∷ p ∷ k ∷ n ∷ base ∷ []) (core_fields known p k n base)
 unfolding core_fields
 core_fields_meet far known w p k n base is =
-    let counted : IsCounted stage.Core (w ∷ p ∷ k ∷ n ∷ base ∷ []) = record { form = form.Core; stands = (p ∷ k ∷ n ∷ base ∷ [], ap (λ z. z ∷ p ∷ k ∷ n ∷ base ∷ []) is); count = refl } in
-    bound (λ v. IsNumber p 1 16 v) (λ r. Meets stage.Core far known (w ∷ p ∷ k ∷ n ∷ base ∷ []) r) (number p 1 16) (λ v. shape_in k n base >>= (λ shape. Ok (grown known (said.Core v shape)))) (number_meets p 1 16 (lit< tt)) (λ v h.
+    let counted : IsCounted stage.Core (w ∷ p ∷ k ∷ n ∷ base ∷ []) = record { form = form.Core; has_word = (p ∷ k ∷ n ∷ base ∷ [], ap (λ z. z ∷ p ∷ k ∷ n ∷ base ∷ []) is); count = refl } in
+    bound (λ v. IsNumber p 1 MOST_PASSES v) (λ r. Meets stage.Core far known (w ∷ p ∷ k ∷ n ∷ base ∷ []) r) (number p 1 MOST_PASSES) (λ v. shape_in k n base >>= (λ shape. Ok (grown known (said.Core v shape)))) (number_meets p 1 MOST_PASSES (lit< tt)) (λ v h.
     bound (λ shape. IsSpelled k n base shape) (λ r. Meets stage.Core far known (w ∷ p ∷ k ∷ n ∷ base ∷ []) r) (shape_in k n base) (λ shape. Ok (grown known (said.Core v shape))) (shape_meets k n base) (λ shape s.
     record { said = said.Core v shape; comes = refl; spelled = (base, core_is w p k n base v shape is h.is s, h.low, h.high, s.in_range, s.base_is, s.router); fits = refl; grows = refl }) counted) counted
 
 core_miscount : (far : PlayScript) (known : Known) (w : List ℕ) (rest : List (List ℕ)) → w ≡ codes "core" → (length (w ∷ rest) ≢ 5) → Meets stage.Core far known (w ∷ rest) (Err why.Fields)
-core_miscount far known w rest is n = record { form = form.Core; stands = (rest, ap (λ z. z ∷ rest) is); other = n }
+core_miscount far known w rest is n = record { form = form.Core; has_word = (rest, ap (λ z. z ∷ rest) is); other = n }
 
 core_rest_meets : (far : PlayScript) (known : Known) (w : List ℕ) (rest : List (List ℕ)) → w ≡ codes "core" → Meets stage.Core far known (w ∷ rest) (core_rest known rest)
 unfolding core_rest
@@ -194,8 +196,8 @@ pushed_by far known who w rest step false e sp = record { said = said.Does step;
 by_step : (far : PlayScript) (read : ℕ) (who : List ℕ) (w : Word) (rest : List (List ℕ)) (r : Result Step WhyRefused) → StepMeets far who w rest r → Meets stage.Steps far (known_at stage.Steps read far) (who ∷ word_text w ∷ rest) (r >>= (λ step. pushed (known_at stage.Steps read far) step))
 unfolding pushed
 by_step far read who w rest (Ok step) h = pushed_by far (known_at stage.Steps read far) who w rest step _ refl h
-by_step far read who w rest (Err why.Fields) h = record { form = form.Does w; stands = (who, rest, refl); other = h }
-by_step far read who w rest (Err why.Field) h = record { form = form.Does w; stands = (who, rest, refl); count = h }
+by_step far read who w rest (Err why.Fields) h = record { form = form.Does w; has_word = (who, rest, refl); other = h }
+by_step far read who w rest (Err why.Field) h = record { form = form.Does w; has_word = (who, rest, refl); count = h }
 by_step far read who w rest (Err _) h = absurd h
 
 by_word_meets : (far : PlayScript) (read : ℕ) (who f : List ℕ) (found : Option Word) (rest : List (List ℕ)) → word_of f ≡ found → Meets stage.Steps far (known_at stage.Steps read far) (who ∷ f ∷ rest) (by_word (known_at stage.Steps read far) who found rest)

@@ -10,7 +10,7 @@ use Rattle.trace_format.specs.declared.refused.WhyRefused.TheVariants as why
 use Rattle.play_script.proofs.Again.{IsNarrow, spelled_reads}
 use Rattle.play_script.proofs.Complete.{complete}
 use Rattle.play_script.proofs.Meets.{known_at, Meets, fields_meet}
-use Rattle.play_script.proofs.Standing.{narrow}
+use Rattle.play_script.proofs.SoundLines.{narrow}
 use Rattle.play_script.proofs.Wording.{formed, one_form}
 use Rattle.play_script.specs.Before.{Known, known_of, script_of, how_many}
 use Rattle.play_script.specs.Fault.{Form, HasWord, HasNoWord, IsMiscounted, IsMisformed, IsOneTooMany, FieldsBreak, IsBad, LineBreaks, RestBreaks, IsFault, arity}
@@ -22,11 +22,11 @@ use Rattle.play_script.specs.declared.script.PlayScript.{PlayScript}
 use Rattle.play_script.specs.declared.words.Stage.{Stage}
 
 no_word_reads : (here : Stage) (far : PlayScript) (known : Known) (parts : List (List ℕ)) (r : Result Known WhyRefused) → HasNoWord here parts → Meets here far known parts r → r ≡ Err why.Word
-no_word_reads here far known parts (Ok new) h m = let f = formed here far m.said parts m.comes m.spelled in absurd (h f.form f.stands)
+no_word_reads here far known parts (Ok new) h m = let f = formed here far m.said parts m.comes m.spelled in absurd (h f.form f.has_word)
 no_word_reads here far known parts (Err why.Word) h m = refl
-no_word_reads here far known parts (Err why.Fields) h m = absurd (h m.form m.stands)
-no_word_reads here far known parts (Err why.Field) h m = absurd (h m.form m.stands)
-no_word_reads here far known parts (Err why.TooMany) h m = let f = formed here far m.said parts m.comes m.spelled in absurd (h f.form f.stands)
+no_word_reads here far known parts (Err why.Fields) h m = absurd (h m.form m.has_word)
+no_word_reads here far known parts (Err why.Field) h m = absurd (h m.form m.has_word)
+no_word_reads here far known parts (Err why.TooMany) h m = let f = formed here far m.said parts m.comes m.spelled in absurd (h f.form f.has_word)
 no_word_reads here far known parts (Err _) h m = absurd m
 
 -- two counts of one line's fields
@@ -34,17 +34,17 @@ same_count : (here : Stage) (parts : List (List ℕ)) (f g : Form) → HasWord h
 same_count here parts f g p q c = c ∙ ap arity (one_form here g f parts q p)
 
 miscounted_reads : (here : Stage) (far : PlayScript) (known : Known) (parts : List (List ℕ)) (r : Result Known WhyRefused) → IsMiscounted here parts → Meets here far known parts r → r ≡ Err why.Fields
-miscounted_reads here far known parts (Ok new) h m = let f = formed here far m.said parts m.comes m.spelled in absurd (h.other (same_count here parts h.form f.form h.stands f.stands f.count))
-miscounted_reads here far known parts (Err why.Word) h m = absurd (m h.form h.stands)
+miscounted_reads here far known parts (Ok new) h m = let f = formed here far m.said parts m.comes m.spelled in absurd (h.other (same_count here parts h.form f.form h.has_word f.has_word f.count))
+miscounted_reads here far known parts (Err why.Word) h m = absurd (m h.form h.has_word)
 miscounted_reads here far known parts (Err why.Fields) h m = refl
-miscounted_reads here far known parts (Err why.Field) h m = absurd (h.other (same_count here parts h.form m.form h.stands m.stands m.count))
-miscounted_reads here far known parts (Err why.TooMany) h m = let f = formed here far m.said parts m.comes m.spelled in absurd (h.other (same_count here parts h.form f.form h.stands f.stands f.count))
+miscounted_reads here far known parts (Err why.Field) h m = absurd (h.other (same_count here parts h.form m.form h.has_word m.has_word m.count))
+miscounted_reads here far known parts (Err why.TooMany) h m = let f = formed here far m.said parts m.comes m.spelled in absurd (h.other (same_count here parts h.form f.form h.has_word f.has_word f.count))
 miscounted_reads here far known parts (Err _) h m = absurd m
 
 misformed_reads : (here : Stage) (far : PlayScript) (known : Known) (parts : List (List ℕ)) (r : Result Known WhyRefused) → IsMisformed here far parts → Meets here far known parts r → r ≡ Err why.Field
 misformed_reads here far known parts (Ok new) h m = absurd (h.nothing m.said m.comes m.spelled)
-misformed_reads here far known parts (Err why.Word) h m = absurd (m h.form h.stands)
-misformed_reads here far known parts (Err why.Fields) h m = absurd (m.other (same_count here parts m.form h.form m.stands h.stands h.count))
+misformed_reads here far known parts (Err why.Word) h m = absurd (m h.form h.has_word)
+misformed_reads here far known parts (Err why.Fields) h m = absurd (m.other (same_count here parts m.form h.form m.has_word h.has_word h.count))
 misformed_reads here far known parts (Err why.Field) h m = refl
 misformed_reads here far known parts (Err why.TooMany) h m = absurd (h.nothing m.said m.comes m.spelled)
 misformed_reads here far known parts (Err _) h m = absurd m

@@ -14,7 +14,7 @@ use Rattle.play_script.specs.Said.{Said}
 use Rattle.play_script.specs.Said as said
 use Rattle.play_script.specs.Script.{IsLine}
 use Rattle.play_script.specs.Spelling.{Spells}
-use Rattle.play_script.specs.Words.{stage_of, may_stand, is_over}
+use Rattle.play_script.specs.Words.{stage_of, may_come, is_over}
 use Rattle.play_script.specs.declared.script.PlayScript.{PlayScript}
 use Rattle.play_script.specs.declared.words.Stage.{Stage}
 
@@ -30,14 +30,14 @@ not_refused : (known : Known) (far : PlayScript) (s : Said) (b : Bool) → cond 
 not_refused known far s true e = absurd (cc)
 not_refused known far s false e = absurd (cc)
 
-says_nothing : (here : Stage) (read : ℕ) (far : PlayScript) (fields : List (List ℕ)) → IsNarrow far → line_at here (known_at here read far) fields ≡ Err why.Field → (s : Said) → may_stand here s ≡ true → Spells far s fields → ⊥
+says_nothing : (here : Stage) (read : ℕ) (far : PlayScript) (fields : List (List ℕ)) → IsNarrow far → line_at here (known_at here read far) fields ≡ Err why.Field → (s : Said) → may_come here s ≡ true → Spells far s fields → ⊥
 says_nothing here read far fields narrow e s m sp = not_refused (known_at here read far) far s _ (sym (spelled_reads here read far s fields narrow m sp) ∙ e)
 
 -- what the fields break
 broken : (here : Stage) (read : ℕ) (far : PlayScript) (fields : List (List ℕ)) (y : WhyRefused) → IsNarrow far → line_at here (known_at here read far) fields ≡ Err y → Reason here far fields y → FieldsBreak here far fields y
 broken here read far fields why.Word narrow e w = w
 broken here read far fields why.Fields narrow e w = w
-broken here read far fields why.Field narrow e w = record { form = w.form; stands = w.stands; count = w.count; nothing = says_nothing here read far fields narrow e }
+broken here read far fields why.Field narrow e w = record { form = w.form; has_word = w.has_word; count = w.count; nothing = says_nothing here read far fields narrow e }
 broken here read far fields why.TooMany narrow e w = w
 broken here read far fields _ narrow e w = w
 

@@ -8,7 +8,7 @@ use Rattle.trace_format.specs.Text.{lines}
 use Rattle.trace_format.specs.declared.refused.TraceRefused.{TraceRefused}
 use Rattle.trace_format.specs.declared.refused.WhyRefused.{WhyRefused}
 use Rattle.trace_format.specs.declared.refused.WhyRefused.TheVariants as why
-use Rattle.play_script.proofs.Standing.{narrow}
+use Rattle.play_script.proofs.SoundLines.{narrow}
 use Rattle.play_script.proofs.Taken.{LineMeets, line_meets}
 use Rattle.play_script.specs.Before.{Known, known_of, how_many}
 use Rattle.play_script.specs.Fault.{RestBreaks, IsFault}

@@ -16,7 +16,7 @@ use Rattle.play_script.specs.Said.{Said}
 use Rattle.play_script.specs.Said as said
 use Rattle.play_script.specs.Spelling.{Spells, SpellsAct}
 use Rattle.play_script.specs.Words as words
-use Rattle.play_script.specs.Words.{word_text, word_done, may_stand}
+use Rattle.play_script.specs.Words.{word_text, word_done, may_come}
 use Rattle.play_script.specs.declared.script.PlayScript.{PlayScript}
 use Rattle.play_script.specs.declared.words.Stage.{Stage}
 use Rattle.play_script.specs.declared.words.Stage.TheVariants as stage
@@ -173,15 +173,15 @@ act_count shape (act.Probe slot at) fields s = (_, s.0, refl)
 -- the form of a line's fields, and how many they are
 pub record Formed (here : Stage) (fields : List (List ℕ)) : Type 0 where
   pub form : Form
-  pub stands : HasWord here form fields
+  pub has_word : HasWord here form fields
   pub count : length fields ≡ arity form
 
-pub formed : (here : Stage) (far : PlayScript) (s : Said) (fields : List (List ℕ)) → may_stand here s ≡ true → Spells far s fields → Formed here fields
-formed stage.Version far said.Version fields m s = record { form = form.Version; stands = (_, s); count = ap length s }
-formed stage.Core far (said.Core passes shape) fields m s = record { form = form.Core; stands = (_, s.1); count = ap length s.1 }
+pub formed : (here : Stage) (far : PlayScript) (s : Said) (fields : List (List ℕ)) → may_come here s ≡ true → Spells far s fields → Formed here fields
+formed stage.Version far said.Version fields m s = record { form = form.Version; has_word = (_, s); count = ap length s }
+formed stage.Core far (said.Core passes shape) fields m s = record { form = form.Core; has_word = (_, s.1); count = ap length s.1 }
 formed stage.Steps far (said.Does step) fields m s =
     let a = act_count far.shape step.act s.1 s.4 in
     let are : fields ≡ s.0 ∷ word_text (word_done step.act) ∷ a.0 = s.2 ∙ ap (λ z. s.0 ∷ z) a.1 in
-    record { form = form.Does (word_done step.act); stands = (s.0, a.0, are); count = ap length are ∙ a.2 }
-formed stage.Steps far said.End fields m s = record { form = form.End; stands = s; count = ap length s }
+    record { form = form.Does (word_done step.act); has_word = (s.0, a.0, are); count = ap length are ∙ a.2 }
+formed stage.Steps far said.End fields m s = record { form = form.End; has_word = s; count = ap length s }
 formed here far s fields m sp = absurd (cc)

@@ -11,7 +11,7 @@ use Rattle.play_script.specs.Said.{Said}
 use Rattle.play_script.specs.Script.{Begins, is_over_limit}
 use Rattle.play_script.specs.Spelling.{Spells}
 use Rattle.play_script.specs.Words as words
-use Rattle.play_script.specs.Words.{word_text, stage_of, may_stand, is_over}
+use Rattle.play_script.specs.Words.{word_text, stage_of, may_come, is_over}
 use Rattle.play_script.specs.declared.script.PlayScript.{PlayScript}
 use Rattle.play_script.specs.declared.words.Stage.{Stage}
 use Rattle.play_script.specs.declared.words.Stage.TheVariants as stage
@@ -46,20 +46,20 @@ HasNoWord here fields = (form : Form) → HasWord here form fields → ⊥
 -- a word that may stand here, with another number of fields than its form has
 pub record IsMiscounted (here : Stage) (fields : List (List ℕ)) : Type 0 where
   pub form : Form
-  pub stands : HasWord here form fields
+  pub has_word : HasWord here form fields
   pub other : length fields ≢ arity form
 
 -- a word that may stand here, with the right number of fields, of which one is not of its form
 pub record IsMisformed (here : Stage) (far : PlayScript) (fields : List (List ℕ)) : Type 0 where
   pub form : Form
-  pub stands : HasWord here form fields
+  pub has_word : HasWord here form fields
   pub count : length fields ≡ arity form
-  pub nothing : (said : Said) → may_stand here said ≡ true → Spells far said fields → ⊥
+  pub nothing : (said : Said) → may_come here said ≡ true → Spells far said fields → ⊥
 
 -- a line of its form, over the limit of steps
 pub record IsOneTooMany (here : Stage) (far : PlayScript) (fields : List (List ℕ)) : Type 0 where
   pub said : Said
-  pub comes : may_stand here said ≡ true
+  pub comes : may_come here said ≡ true
   pub spelled : Spells far said fields
   pub over : is_over_limit far said ≡ true
 

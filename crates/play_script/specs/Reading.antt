@@ -12,7 +12,9 @@ use Rattle.hex.specs.Hex.{decode_sized}
 use Rattle.hex.specs.declared.error.FromHexError.{FromHexError}
 use Rattle.spie_base.specs.declared.types.PageShape.{PageShape}
 use Rattle.spie_base.specs.declared.types.Sig.{Sig}
-use Rattle.spie_base.specs.declared.types.TheConstants.{N_MOST}
+use Rattle.spie_base.specs.declared.types.TheConstants.{K_MOST, N_LEAST}
+use Rattle.gate_core.specs.declared.limits.TheConstants.{MOST_PASSES, SLOTS}
+use Rattle.play_script.specs.declared.script.TheConstants.{CORE_N_MOST}
 use Rattle.trace_format.specs.Fault.{too_long}
 use Rattle.trace_format.specs.Limits.{most_bytes, most_line_bytes}
 use Rattle.play_script.specs.Limits.{most_steps}
@@ -25,7 +27,7 @@ use Rattle.trace_format.specs.declared.refused.WhyRefused.TheVariants as why
 use Rattle.play_script.specs.Before.{Known, known_of}
 use Rattle.play_script.specs.Said.{Said}
 use Rattle.play_script.specs.Said as said
-use Rattle.play_script.specs.Spelling.{may_do}
+use Rattle.gate_core.specs.Core.{may_do}
 use Rattle.play_script.specs.Words.{word_text, is_over}
 use Rattle.play_script.specs.declared.script.PlayScript.{PlayScript}
 use Rattle.play_script.specs.declared.words.Stage.{Stage}
@@ -52,8 +54,8 @@ actor_in passes field = if bytes_eq field (codes "k") then Ok actor.Keeper else 
 
 unfoldable pub shape_in : (k n base : List ℕ) → Result PageShape WhyRefused
 shape_in k n base = do
-  k ← number k 1 8
-  n ← number n 6 N_MOST
+  k ← number k 1 K_MOST
+  n ← number n N_LEAST CORE_N_MOST
   base ← base_of base
   Ok (record { k = k; n = n; base = base; router = record { number = 0 } })
 
@@ -68,12 +70,12 @@ enter_in (sig ∷ []) = sig_of sig >>= (λ sig. Ok (act.Enter sig))
 enter_in _ = Err why.Fields
 
 unfoldable pub slot_in : List (List ℕ) → Result ℕ WhyRefused
-slot_in (slot ∷ []) = below slot 4
+slot_in (slot ∷ []) = below slot SLOTS
 slot_in _ = Err why.Fields
 
 unfoldable pub probe_fields : (positions : ℕ) → (slot at : List ℕ) → Result Act WhyRefused
 probe_fields positions slot at = do
-  slot ← below slot 4
+  slot ← below slot SLOTS
   at ← below at positions
   Ok (act.Probe slot at)
 
@@ -136,7 +138,7 @@ version_line known (w ∷ rest) = if bytes_eq w (codes "spie-play") then version
 
 unfoldable pub core_fields : Known → (passes k n base : List ℕ) → Result Known WhyRefused
 core_fields known passes k n base = do
-  passes ← number passes 1 16
+  passes ← number passes 1 MOST_PASSES
   shape ← shape_in k n base
   Ok (grown known (said.Core passes shape))
 

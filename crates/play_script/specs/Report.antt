@@ -1,17 +1,15 @@
 -- The text of what a script's steps answered, and of the pages behind them.
-use Rattle.std.specs.Prelude.{ℕ, ◌≡◌, ◌+◌, ◌==◌, List, [], ◌∷◌, ◌++◌, Bool, true, false, length, count_by, codes, decimal, if◌then◌else◌}
+use Rattle.std.specs.Prelude.{ℕ, ◌≡◌, ◌+◌, ◌==◌, List, [], ◌∷◌, ◌++◌, Bool, true, false, length, count_by, codes, decimal, Option, Some, None}
 use Rattle.std.specs.List.{flat_map, range_with_len}
 use Rattle.bloom_page.specs.Bits.{members_of}
 use Rattle.gate_core.specs.Acts.{page_of}
 use Rattle.gate_core.specs.Core.{Core, duties_of}
-use Rattle.gate_core.specs.PageWords.{stands_with, page_words}
+use Rattle.gate_core.specs.PageWords.{phase_with, page_words}
 use Rattle.gate_core.specs.Play.{IsPlayed}
 use Rattle.gate_core.specs.Start.{start_of}
-use Rattle.gate_core.specs.Views.{slot_at}
-use Rattle.gate_core.specs.declared.view.Slot.{Slot}
 use Rattle.gate_core.specs.declared.states.ActorState.{ActorState}
 use Rattle.gate_core.specs.declared.states.ActorState.TheVariants as actor_state
-use Rattle.gate_core.specs.declared.states.Entry.{Entry}
+use Rattle.spie_base.specs.declared.types.Entry.{Entry}
 use Rattle.gate_core.specs.declared.states.PassState.{PassState}
 use Rattle.gate_core.specs.declared.states.PassState.TheVariants.{Idle, Looked, Inside, Visiting}
 use Rattle.gate_core.specs.declared.states.SlotPhase.{SlotPhase}
@@ -64,13 +62,13 @@ abbrev pub answers_text : ℕ → List StepAnswer → List ℕ
 answers_text line [] = []
 answers_text line (reply ∷ more) = line_text line (answer_fields reply) ++ answers_text (line + 1) more
 
--- the phase of the first of these slots that has the page, or that its words are all collected
-abbrev pub standing_in : (page : ℕ) → List Slot → List ℕ
-standing_in page [] = codes "collected"
-standing_in page (slot ∷ more) = if stands_with page slot then phase_text slot.phase else standing_in page more
+-- the phase of the slot in which the page stands, or that its words are all collected
+abbrev pub place_text : Option SlotPhase → List ℕ
+place_text None = codes "collected"
+place_text (Some phase) = phase_text phase
 
 abbrev pub standing_text : Core → (page : ℕ) → List ℕ
-standing_text c page = let d = duties_of c in standing_in page (slot_at d 0 ∷ slot_at d 1 ∷ slot_at d 2 ∷ slot_at d 3 ∷ [])
+standing_text c page = place_text (phase_with c page)
 
 -- the finished entries of a page
 abbrev pub entries_in : Core → (page : ℕ) → ℕ
@@ -90,9 +88,9 @@ unfoldable pub play_report : Core → List StepAnswer → List ℕ
 play_report c replies = codes "spie-play-report 1\n" ++ answers_text 3 replies ++ flat_map (page_line c) (range_with_len 0 (duties_of c).next) ++ codes "end\n"
 
 -- the machine after the script's steps, and what they answered
-abbrev pub IsDone : PlayScript → Core → List StepAnswer → Type 0
-IsDone script c replies = IsPlayed (record (start_of script.shape script.passes) { room = length script.steps }) script.steps c replies
+abbrev pub IsScriptPlayed : PlayScript → Core → List StepAnswer → Type 0
+IsScriptPlayed script c replies = IsPlayed (record (start_of script.shape script.passes) { room = length script.steps }) script.steps c replies
 
 -- the text of the script's steps, done in order from the start
 abbrev pub IsReport : PlayScript → List ℕ → Type 0
-IsReport script text = (c : Core) × (replies : List StepAnswer) × IsDone script c replies × (text ≡ play_report c replies)
+IsReport script text = (c : Core) × (replies : List StepAnswer) × IsScriptPlayed script c replies × (text ≡ play_report c replies)

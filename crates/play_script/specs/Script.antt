@@ -7,7 +7,7 @@ use Rattle.play_script.specs.Before.{script_of}
 use Rattle.play_script.specs.Said.{Said}
 use Rattle.play_script.specs.Said as said
 use Rattle.play_script.specs.Spelling.{Spells}
-use Rattle.play_script.specs.Words.{stage_of, may_stand, is_over}
+use Rattle.play_script.specs.Words.{stage_of, may_come, is_over}
 use Rattle.play_script.specs.declared.script.PlayScript.{PlayScript}
 
 -- one step more would be over the limit
@@ -18,7 +18,7 @@ is_over_limit far _ = false
 -- a line that says this, and may stand behind the lines before
 pub record IsLine (before : List Said) (line : List ℕ) (said : Said) : Type 0 where
   pub short : length line ≤ most_line_bytes
-  pub comes : may_stand (stage_of before) said ≡ true
+  pub comes : may_come (stage_of before) said ≡ true
   pub spelled : Spells (script_of before) said (fields line)
   pub fits : is_over_limit (script_of before) said ≡ false
 

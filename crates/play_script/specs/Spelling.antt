@@ -1,8 +1,10 @@
 -- How a line is spelled.
-use Rattle.std.specs.Prelude.{ℕ, ◌^◌, ◌<◌, ◌≤◌, ◌≡◌, List, [], ◌∷◌, Bool, true, false, not, codes, Ok}
+use Rattle.std.specs.Prelude.{ℕ, ◌^◌, ◌<◌, ◌≤◌, ◌≡◌, List, [], ◌∷◌, true, codes, Ok}
 use Rattle.std.specs.Fmt.{decimal}
 use Rattle.hex.specs.Hex.{decode_sized}
-use Rattle.gate_core.specs.Marks.{IsShape}
+use Rattle.gate_core.specs.Core.{may_do}
+use Rattle.gate_core.specs.declared.limits.TheConstants.{MOST_PASSES, SLOTS}
+use Rattle.play_script.specs.Limits.{IsCore}
 use Rattle.gate_core.specs.declared.steps.Act.{Act}
 use Rattle.gate_core.specs.declared.steps.Act.TheVariants as act
 use Rattle.gate_core.specs.declared.steps.Actor.{Actor}
@@ -30,27 +32,15 @@ SpellsAct shape (act.Enter sig) fields = (digits : List ℕ) × (fields ≡ code
 SpellsAct shape act.Set fields = fields ≡ codes "set" ∷ []
 SpellsAct shape act.Leave fields = fields ≡ codes "leave" ∷ []
 SpellsAct shape act.Seal fields = fields ≡ codes "seal" ∷ []
-SpellsAct shape (act.Settle slot) fields = (fields ≡ codes "settle" ∷ decimal slot ∷ []) × (slot < 4)
-SpellsAct shape (act.Drain slot) fields = (fields ≡ codes "drain" ∷ decimal slot ∷ []) × (slot < 4)
-SpellsAct shape (act.Open slot) fields = (fields ≡ codes "open" ∷ decimal slot ∷ []) × (slot < 4)
+SpellsAct shape (act.Settle slot) fields = (fields ≡ codes "settle" ∷ decimal slot ∷ []) × (slot < SLOTS)
+SpellsAct shape (act.Drain slot) fields = (fields ≡ codes "drain" ∷ decimal slot ∷ []) × (slot < SLOTS)
+SpellsAct shape (act.Open slot) fields = (fields ≡ codes "open" ∷ decimal slot ∷ []) × (slot < SLOTS)
 SpellsAct shape act.Point fields = fields ≡ codes "point" ∷ []
-SpellsAct shape (act.Probe slot at) fields = (fields ≡ codes "probe" ∷ decimal slot ∷ decimal at ∷ []) × (slot < 4) × (at < 2 ^ shape.n)
-
--- the acts that no pass does
-abbrev pub is_keepers : Act → Bool
-is_keepers act.Look = false
-is_keepers (act.Enter sig) = false
-is_keepers act.Set = false
-is_keepers act.Leave = false
-is_keepers _ = true
-
-abbrev pub may_do : Actor → Act → Bool
-may_do actor.Keeper a = true
-may_do (actor.Pass number) a = not (is_keepers a)
+SpellsAct shape (act.Probe slot at) fields = (fields ≡ codes "probe" ∷ decimal slot ∷ decimal at ∷ []) × (slot < SLOTS) × (at < 2 ^ shape.n)
 
 -- the fields of a line that says this, behind lines that say so much
 abbrev pub Spells : PlayScript → Said → List (List ℕ) → Type 0
 Spells far said.Version fields = fields ≡ codes "spie-play" ∷ codes "1" ∷ []
-Spells far (said.Core passes shape) fields = (base : List ℕ) × (fields ≡ codes "core" ∷ decimal passes ∷ decimal shape.k ∷ decimal shape.n ∷ base ∷ []) × (1 ≤ passes) × (passes ≤ 16) × IsShape shape × IsBase base shape.base × (shape.router.number ≡ 0)
+Spells far (said.Core passes shape) fields = (base : List ℕ) × (fields ≡ codes "core" ∷ decimal passes ∷ decimal shape.k ∷ decimal shape.n ∷ base ∷ []) × (1 ≤ passes) × (passes ≤ MOST_PASSES) × IsCore shape × IsBase base shape.base × (shape.router.number ≡ 0)
 Spells far (said.Does step) fields = (who : List ℕ) × (rest : List (List ℕ)) × (fields ≡ who ∷ rest) × IsActor far.passes step.actor who × SpellsAct far.shape step.act rest × (may_do step.actor step.act ≡ true)
 Spells far said.End fields = fields ≡ codes "end" ∷ []

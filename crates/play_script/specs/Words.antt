@@ -56,12 +56,12 @@ stage_of (said.Does step ∷ before) = stage.Steps
 stage_of (said.End ∷ before) = stage.Over
 
 -- the lines that may stand at each stage
-abbrev pub may_stand : Stage → Said → Bool
-may_stand stage.Version said.Version = true
-may_stand stage.Core (said.Core passes shape) = true
-may_stand stage.Steps (said.Does step) = true
-may_stand stage.Steps said.End = true
-may_stand _ _ = false
+abbrev pub may_come : Stage → Said → Bool
+may_come stage.Version said.Version = true
+may_come stage.Core (said.Core passes shape) = true
+may_come stage.Steps (said.Does step) = true
+may_come stage.Steps said.End = true
+may_come _ _ = false
 
 -- whether the end line was read
 abbrev pub is_over : Stage → Bool

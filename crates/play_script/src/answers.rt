@@ -4,6 +4,7 @@ ghost use Rattle.std.specs.List.{flat_map};
 ghost use Rattle.report_text.specs.Report.{spaced, line_text, listed};
 ghost use Rattle.play_script.specs.Report as texts;
 
+use gate_core::gate_word::page;
 use gate_core::{ActorState, PassState, SlotPhase, StepAnswer};
 use report_text::{push, push_counted, push_field, push_number, push_word};
 use spie_base::NoMemory;
@@ -86,7 +87,12 @@ fn push_answer(out: &mut Vec<u8>, line: u64, answer: StepAnswer) -> Result<(), N
     match answer {
         StepAnswer::Slot(slot) => push_counted(out, line, b"slot", u64::from(slot)),
         StepAnswer::Entered(page) => push_counted(out, line, b"in", u64::from(page.number)),
-        StepAnswer::Visiting { gate } => push_counted(out, line, b"visiting", gate >> 32),
+        StepAnswer::Visiting { gate } => push_counted(
+            out,
+            line,
+            b"visiting",
+            u64::from(page(gate).number),
+        ),
         StepAnswer::Set => push_word(out, line, b"set"),
         StepAnswer::Left => push_word(out, line, b"left"),
         StepAnswer::Sealed(page) => push_counted(out, line, b"sealed", u64::from(page.number)),

@@ -7,13 +7,11 @@ ghost use Rattle.play_script.specs.Reading as reading;
 use crate::forms::{shape_in, step_in};
 use crate::script::PlayScript;
 use crate::words::{Stage, Word, word_of};
-use gate_core::Step;
+use gate_core::{MOST_PASSES, Step};
 use spie_base::{List, PageShape, RouterId};
 use std::alloc::Global;
 use std::marker::Model;
 use trace_format::{MOST_LINE_BYTES, Stop, WhyRefused, number, split_into};
-
-const MOST_PASSES: u64 = 16;
 
 const MOST_STEPS: usize = 100_000;
 
@@ -158,7 +156,7 @@ impl Draft {
         requires { self.old.read < 2 ^ 40 }
         ensures { Gives (λ _. self.new) result (reading.core_fields self.old passes.now k.now n.now base.now) }
     {
-        let passes = number(passes, 1, MOST_PASSES)? as u32;
+        let passes = number(passes, 1, u64::from(MOST_PASSES))? as u32;
         let shape = shape_in(k, n, base)?;
         self.stage = Stage::Steps;
         self.read += 1;

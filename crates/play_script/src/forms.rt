@@ -1,16 +1,13 @@
 // The forms of a script's fields.
 ghost use Rattle.std.specs.Prelude.{◌≡◌, ◌<◌, ◌≤◌, IfOk, map};
-ghost use Rattle.spie_base.specs.declared.types.TheConstants.{N_MOST};
+ghost use Rattle.play_script.specs.declared.script.TheConstants.{CORE_N_MOST};
 ghost use Rattle.play_script.specs.Reading as reading;
-ghost use Rattle.play_script.specs.Spelling.{may_do};
 
+use crate::script::CORE_N_MOST;
 use crate::words::Word;
-use gate_core::{Act, Actor, Step};
-use spie_base::{N_MOST, PageShape, RouterId, Sig};
+use gate_core::{Act, Actor, SLOTS, Step};
+use spie_base::{K_MOST, N_LEAST, PageShape, RouterId, Sig};
 use trace_format::{WhyRefused, base_of, number};
-
-// A router's slots.
-const SLOTS: u32 = 4;
 
 // A number below a bound.
 #[tactic(auto, unfolding(crate::specs::Reading::below))]
@@ -51,10 +48,10 @@ fn actor_in(field: &[u8], passes: u32) -> Result<Actor, WhyRefused>
 #[tactic(auto, unfolding(crate::specs::Reading::shape_in))]
 pub fn shape_in(k: &[u8], n: &[u8], base: &[u8]) -> Result<PageShape, WhyRefused>
     ensures value { result ≡ reading.shape_in k.now n.now base.now }
-    ensures within { IfOk result (λ shape. shape.n ≤ N_MOST) }
+    ensures within { IfOk result (λ shape. shape.n ≤ CORE_N_MOST) }
 {
-    let k = number(k, 1, 8)? as u8;
-    let n = number(n, 6, u64::from(N_MOST))? as u8;
+    let k = number(k, 1, u64::from(K_MOST))? as u8;
+    let n = number(n, u64::from(N_LEAST), u64::from(CORE_N_MOST))? as u8;
     let base = base_of(base)?;
     Ok(PageShape {
         k,
@@ -89,7 +86,7 @@ fn slot_in(rest: &[&[u8]]) -> Result<u8, WhyRefused>
     ensures { result ≡ reading.slot_in (map (λ f. f.now) rest.now) }
 {
     match rest {
-        [slot] => Ok(below(slot, SLOTS)? as u8),
+        [slot] => Ok(below(slot, u32::from(SLOTS))? as u8),
         _ => Err(WhyRefused::Fields),
     }
 }
@@ -98,7 +95,7 @@ fn slot_in(rest: &[&[u8]]) -> Result<u8, WhyRefused>
 fn probe_fields(slot: &[u8], at: &[u8], positions: u32) -> Result<Act, WhyRefused>
     ensures { result ≡ reading.probe_fields positions slot.now at.now }
 {
-    let slot = below(slot, SLOTS)? as u8;
+    let slot = below(slot, u32::from(SLOTS))? as u8;
     Ok(Act::Probe(slot, below(at, positions)?))
 }
 
@@ -131,21 +128,11 @@ fn act_in(word: Word, rest: &[&[u8]], positions: u32) -> Result<Act, WhyRefused>
     }
 }
 
-// Whether this actor may do this act.
-fn may_do(actor: Actor, act: Act) -> bool
-    ensures { result ≡ may_do actor act }
-{
-    match actor {
-        Actor::Keeper => true,
-        Actor::Pass(_) => matches!(act, Act::Look | Act::Enter(_) | Act::Set | Act::Leave),
-    }
-}
-
 #[tactic(auto, unfolding(crate::specs::Reading::step_of))]
 fn step_of(actor: Actor, act: Act) -> Result<Step, WhyRefused>
     ensures { result ≡ reading.step_of actor act }
 {
-    if may_do(actor, act) {
+    if actor.may_do(act) {
         Ok(Step { actor, act })
     } else {
         Err(WhyRefused::Field)

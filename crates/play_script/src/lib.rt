@@ -11,16 +11,14 @@
 mod answers;
 mod draft;
 mod forms;
-mod law;
+mod laws;
 mod pages;
 mod reader;
 mod report;
 mod script;
-#[cfg(test)]
-mod tests;
 mod words;
 
-pub use law::script_or_fault;
+pub use laws::{script_has_one_report, script_or_fault};
 pub use reader::read_play;
 pub use report::play_text;
-pub use script::PlayScript;
+pub use script::{CORE_N_MOST, PlayScript};

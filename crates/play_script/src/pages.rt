@@ -2,43 +2,23 @@
 ghost use Rattle.std.specs.Prelude.{◌≡◌, ◌++◌, ◌∷◌, [], ◌+◌, ◌<◌, ◌^◌, ◌==◌, ℕ, OnOk, IfOk, decimal, length, count_by, codes, slice_index};
 ghost use Rattle.std.specs.List.{flat_map, range_with_len};
 ghost use Rattle.gate_core.specs.Core.{duties_of};
-ghost use Rattle.gate_core.specs.PageWords.{stands_with};
-ghost use Rattle.gate_core.specs.Views.{slot_at};
-ghost use Rattle.gate_core.specs.declared.states.Entry.{Entry as AnEntry};
+ghost use Rattle.spie_base.specs.declared.types.Entry.{Entry as AnEntry};
 ghost use Rattle.report_text.specs.Report.{spaced};
 ghost use Rattle.play_script.specs.Report as texts;
 
 use crate::answers::phase_text;
-use gate_core::{CoreState, Entry, SlotPhase};
+use gate_core::CoreState;
 use report_text::{push, push_count, push_field};
-use spie_base::{NoMemory, PageNo};
+use spie_base::{Entry, NoMemory, PageNo};
 use std::alloc::Global;
 
-// Whether the page stands in a slot.
-fn stands(state: &CoreState, slot: u8, page: u32) -> bool
-    requires { slot < 4 }
-    ensures { result ≡ stands_with page (slot_at (duties_of state.now) slot) }
-{
-    match state.phase(slot) {
-        SlotPhase::Free => false,
-        _ => state.slot_page(slot).number == page,
-    }
-}
-
-// The phase of the slot with a page, or that the page is collected.
+// The phase of the slot in which a page stands, or that the page is collected.
 fn standing(state: &CoreState, page: u32) -> &'static [u8]
     ensures { result.now ≡ texts.standing_text state.now page }
 {
-    if stands(state, 0, page) {
-        phase_text(state.phase(0))
-    } else if stands(state, 1, page) {
-        phase_text(state.phase(1))
-    } else if stands(state, 2, page) {
-        phase_text(state.phase(2))
-    } else if stands(state, 3, page) {
-        phase_text(state.phase(3))
-    } else {
-        b"collected"
+    match state.phase_of(PageNo { number: page }) {
+        Some(phase) => phase_text(phase),
+        None => b"collected",
     }
 }
 

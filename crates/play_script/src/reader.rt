@@ -1,6 +1,6 @@
 // Reads the text of a script.
 ghost use Rattle.std.specs.Prelude.{◌∷◌, [], ◌<◌, ◌^◌, length, IfOk, Ok, Err};
-ghost use Rattle.trace_format.specs.Answers.{Answers, RefusedWith};
+ghost use Rattle.trace_format.specs.Outcomes.{IsReadAs, RefusedWith};
 ghost use Rattle.trace_format.specs.Outcomes.{Reads};
 ghost use Rattle.trace_format.specs.Text.{lines};
 ghost use Rattle.trace_format.specs.declared.refused.TraceRefused.{TraceRefused};
@@ -72,8 +72,8 @@ pub fn read_play(alloc: Global, text: &[u8]) -> Result<PlayScript, ReadTraceRefu
     ensures script { IfOk result (λ script. IsScript text.now script) }
     ensures sound { IfOk result IsSound }
     ensures fault { RefusedWith result (λ fault. IsFault text.now fault) }
-    ensures each_script { (script : PlayScript) → IsScript text.now script → Answers result (Ok script) }
-    ensures each_fault { (fault : TraceRefused) → IsFault text.now fault → Answers result (Err fault) }
+    ensures each_script { (script : PlayScript) → IsScript text.now script → IsReadAs result (Ok script) }
+    ensures each_fault { (fault : TraceRefused) → IsFault text.now fault → IsReadAs result (Err fault) }
 {
     read_text(alloc, text)
 }

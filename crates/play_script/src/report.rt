@@ -1,7 +1,7 @@
 // The text of what a script's steps answered.
 ghost use Rattle.std.specs.Prelude.{◌≡◌, ◌++◌, IfOk};
 ghost use Rattle.play_script.specs.Report as texts;
-ghost use Rattle.play_script.specs.Report.{IsDone, IsReport, play_report};
+ghost use Rattle.play_script.specs.Report.{IsScriptPlayed, IsReport, play_report};
 
 use crate::answers::push_answers;
 use crate::pages::push_pages;
@@ -25,7 +25,7 @@ fn text_of(alloc: Global, played: &Played) -> Result<Vec<u8>, NoMemory>
 
 /// The text of what the steps of a script answered, and of the pages behind them, as `play` gives both.
 pub fn play_text(alloc: Global, played: &Played, _script: &PlayScript) -> Result<Vec<u8>, NoMemory>
-    requires { IsDone _script.now played.now.state played.now.answers }
+    requires { IsScriptPlayed _script.now played.now.state played.now.answers }
     ensures text { IfOk result (λ text. text.items ≡ play_report played.now.state played.now.answers) }
     ensures report { IfOk result (λ text. IsReport _script.now text.items) }
 {

@@ -1,5 +1,5 @@
 use Rattle.std.proofs.Common.{◌≡◌, ◌<◌, ◌==◌, ℕ, length, take, count_by, slice_index}
-use Rattle.gate_core.specs.declared.states.Entry.{Entry}
+use Rattle.spie_base.specs.declared.types.Entry.{Entry}
 use Rattle.play_script.proofs.pages.entries_by_page.Given as goal
 
 abbrev pub invariant-loop-entry : goal.invariant-loop-entry

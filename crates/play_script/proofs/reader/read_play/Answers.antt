@@ -1,5 +1,5 @@
 use Rattle.std.proofs.Common.{ℕ, ◌≡◌, List, Ok, Err, Result, IfOk, subst}
-use Rattle.trace_format.specs.Answers.{Answers, RefusedWith}
+use Rattle.trace_format.specs.Outcomes.{IsReadAs, RefusedWith}
 use Rattle.trace_format.specs.Outcomes.{Reads}
 use Rattle.trace_format.specs.declared.refused.ReadTraceRefused.{ReadTraceRefused}
 use Rattle.trace_format.specs.declared.refused.ReadTraceRefused.TheVariants as ends
@@ -11,7 +11,7 @@ use Rattle.play_script.specs.Sound.{IsSound}
 use Rattle.play_script.specs.declared.script.PlayScript.{PlayScript}
 use Rattle.play_script.proofs.Complete.{script_is_read}
 use Rattle.play_script.proofs.Sole.{fault_is_read}
-use Rattle.play_script.proofs.Standing.{script_is_sound}
+use Rattle.play_script.proofs.SoundLines.{script_is_sound}
 use Rattle.play_script.proofs.Whole.{TextMeets, text_meets}
 use Rattle.play_script.proofs.reader.read_play.Goals as goal
 
@@ -31,7 +31,7 @@ by_refusal text (Ok script) h = tt
 by_refusal text (Err ends.NoMemory) h = tt
 by_refusal text (Err (ends.Refused fault)) h = met text (Err fault) h
 
-answers : (r : Result PlayScript ReadTraceRefused) (read : Result PlayScript TraceRefused) → Reads (λ script. script) r read → Answers r read
+answers : (r : Result PlayScript ReadTraceRefused) (read : Result PlayScript TraceRefused) → Reads (λ script. script) r read → IsReadAs r read
 answers (Ok script) read h = h
 answers (Err ends.NoMemory) read h = tt
 answers (Err (ends.Refused fault)) read h = h

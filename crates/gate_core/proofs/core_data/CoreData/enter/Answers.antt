@@ -4,7 +4,7 @@ use Rattle.spie_base.specs.declared.PageNo.{PageNo}
 use Rattle.gate_core.specs.declared.steps.StepAnswer.TheVariants as answer
 use Rattle.gate_core.specs.Kept.{DoesAct}
 use Rattle.gate_core.specs.declared.steps.Act.TheVariants.{Enter}
-use Rattle.gate_core.specs.Acts.{gate_word, page_of}
+use Rattle.gate_core.specs.Acts.{gate_place, page_of}
 use Rattle.hash_family.specs.Positions.{family_of}
 use Rattle.gate_core.proofs.RecordGates.{unsealed}
 use Rattle.gate_core.proofs.RecordFacts.{record_refused}
@@ -37,7 +37,7 @@ returns-then-is_sealed c =
 
 pub returns-else-is_sealed : goal.returns-else-is_sealed
 returns-else-is_sealed c =
-    let read : c.word_at-gate.result ≡ get_or c.args.self.now.words.items (gate_word c.in-Looked.slot) 0 = c.word_at-gate.ensures ∙ ap (λ (i : ℕ). get_or c.args.self.now.words.items i 0) c.gate_at.ensures in
+    let read : c.word_at-gate.result ≡ get_or c.args.self.now.words.items (gate_place c.in-Looked.slot) 0 = c.word_at-gate.ensures ∙ ap (λ (i : ℕ). get_or c.args.self.now.words.items i 0) c.gate_at.ensures in
     let family = family_there c.args.self.now c.requires.holds c.in-Looked.slot (looked_near c.args.self.now c.requires.holds c.args.place c.requires.seat c.in-Looked.slot c.in-Looked.ensures) ∙ ap (λ (n : ℕ). Some (family_of c.args.self.now.shape (page_of n))) (sym read) in
     subst (λ (page : PageNo). DoesAct c.args.self.now c.go_inside.new.self c.args.place (Enter c.args.sig.now) (answer.Entered page)) (sym c.page.ensures)
     (entered_inside c.args.self.now c.go_inside.new.self c.args.place c.requires.holds c.requires.seat c.requires.room c.in-Looked.slot c.in-Looked.ensures

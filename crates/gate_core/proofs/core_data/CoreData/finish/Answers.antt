@@ -1,5 +1,5 @@
 use Rattle.std.proofs.Common.{◌≤◌, sym, subst, vec_len}
-use Rattle.gate_core.specs.declared.states.Entry.{Entry}
+use Rattle.spie_base.specs.declared.types.Entry.{Entry}
 use Rattle.gate_core.specs.declared.core_data.Log.{Log}
 use Rattle.gate_core.proofs.RecordFacts.{own_few}
 use Rattle.gate_core.proofs.core_data.CoreData.finish.Goals as goal
