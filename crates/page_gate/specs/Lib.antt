@@ -1,0 +1,5 @@
+pub mod Steps
+pub mod Tried
+pub mod Lasts
+pub mod Held
+pub mod Slots

@@ -1,0 +1,51 @@
+-- What a try to record tells.
+use Rattle.std.specs.Prelude.{◌≡◌, ℕ, [], ◌∷◌, ◌++◌}
+use Rattle.atomic_table.specs.declared.shared.Seat.{Seat}
+use Rattle.spie_base.specs.declared.Sig.{Sig}
+use Rattle.spie_base.specs.declared.PageNo.{PageNo}
+use Rattle.gate_core.specs.declared.states.PassState.TheVariants.{Idle}
+use Rattle.gate_core.specs.declared.view.View.{View}
+use Rattle.spie_base.specs.declared.PageShape.{PageShape}
+use Rattle.gate_core.specs.Invariant.{VisitFits}
+use Rattle.gate_core.specs.Moves.{Plane, MeetsInvariant}
+use Rattle.page_gate.specs.declared.record.Tried.{Tried}
+use Rattle.page_gate.specs.declared.record.Tried.TheVariants.{Entered, Sealed}
+use Rattle.page_gate.specs.Steps.{Nothing}
+use Rattle.page_gate.specs.Held.{PassHeld}
+
+-- the seat is the same, and its view is w
+abbrev pub StaysWith : Seat Nothing View → Seat Nothing View → View → Type 0
+StaysWith before after w = (after.table_id ≡ before.table_id) × (after.id ≡ before.id) × (after.me ≡ (w, before.me.1))
+
+-- at some moment the plane met the invariant, and what was read then is a visit of an actor with this floor: the gate was sealed, its
+-- page was below the next page, not below the floor, and stood in no Open slot
+pub record SealedThen (shape : PageShape) (floor slot gate : ℕ) : Type 0 where
+  pub plane : Plane
+  pub rule : MeetsInvariant shape plane
+  pub visit : VisitFits rule.head.duties floor (record { slot = slot; gate = gate })
+
+-- the slot that was visited, and what is known of its gate
+abbrev pub Visited : PageShape → View → View → ℕ → Type 0
+Visited shape v w gate = (slot : ℕ) × (w ≡ record v { state = Idle; visits = v.visits ++ record { slot = slot; gate = gate } ∷ [] }) × SealedThen shape v.floor slot gate
+
+abbrev pub TellsView : PageShape → Sig → View → View → Tried → Type 0
+TellsView shape sig v w (Entered page) = w ≡ record v { state = Idle; entries = v.entries ++ record { page = page; sig = sig } ∷ [] }
+TellsView shape sig v w (Sealed gate) = Visited shape v w gate
+
+abbrev pub Tells : PageShape → Sig → Seat Nothing View → Seat Nothing View → Tried → Type 0
+Tells shape sig before after t = (after.table_id ≡ before.table_id) × (after.id ≡ before.id) × (after.me.1 ≡ before.me.1) × TellsView shape sig before.me.0 after.me.0 t
+
+-- the view with an entry more, idle
+abbrev pub with_entry : View → PageNo → Sig → View
+with_entry v page sig = record v { state = Idle; entries = v.entries ++ record { page = page; sig = sig } ∷ [] }
+
+-- the seat is the same, and has an entry more
+abbrev pub RecordedIn : PageNo → Sig → Seat Nothing View → Seat Nothing View → Type 0
+RecordedIn page sig before after = StaysWith before after (with_entry before.me.0 page sig)
+
+-- ---- the same of a pass
+
+-- an entry more, the last one; or a visit more and no entry, of a gate that was sealed then
+abbrev pub PassTells : PageShape → Sig → PassHeld → PassHeld → Tried → Type 0
+PassTells shape sig before after (Entered page) = after ≡ record before { entries = before.entries ++ record { page = page; sig = sig } ∷ [] }
+PassTells shape sig before after (Sealed gate) = (slot : ℕ) × (after ≡ record before { visits = before.visits ++ record { slot = slot; gate = gate } ∷ [] }) × SealedThen shape before.floor slot gate

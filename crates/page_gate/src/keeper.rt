@@ -1,0 +1,80 @@
+// Who deals and gathers, and turns the pages.
+ghost use Rattle.std.specs.Prelude.{◌≡◌, ◌<◌, ◌≤◌, ◌↔◌, ℕ, IsTrue, IsNone, IfSome};
+ghost use Rattle.page_gate.specs.Slots.{HasOpen, IsWaiting, open_page, free_count};
+
+use crate::slots::{free, oldest};
+use atomic_table::Seat;
+use gate_core::view::{Slot, View};
+use gate_core::{SLOTS, open_slot};
+use spie_base::PageNo;
+use std::marker::Model;
+
+/// The keeper of a plane. It has the entries of the passes that it gathered, and its own.
+#[derive(Drop)]
+pub struct Keeper {
+    pub(crate) seat: Seat<(), View>,
+    pub(crate) slots: [Slot; 4],
+    pub(crate) out: u32,
+}
+
+impl Model for Keeper {
+    ghost use Rattle.std.specs.Prelude.{◌≡◌, ◌<◌, [], length};
+    ghost use Rattle.gate_core.specs.declared.limits.TheConstants.{SLOTS};
+    ghost use Rattle.gate_core.specs.Acts.{open_slot};
+    ghost use Rattle.gate_core.specs.declared.view.Role.TheVariants.{Keeper as keeping};
+    ghost use Rattle.gate_core.specs.declared.states.PassState.TheVariants.{Idle};
+    ghost use Rattle.page_gate.specs.Held.{Held};
+    ghost use Rattle.page_gate.specs.Slots.{HasOpen};
+
+    ghost Value = { Held };
+
+    ghost view = { λ k. record { table = k.seat.table_id; view = k.seat.me.0 } };
+
+    ghost invariant = { λ k. (k.out ≡ k.seat.me.0.duties.out) × (k.seat.me.0.state ≡ Idle) × (k.seat.me.0.role ≡ keeping) × (k.seat.me.1 ≡ []) × (k.slots ≡ k.seat.me.0.duties.slots) × (length k.seat.me.0.duties.slots ≡ SLOTS) × (HasOpen k.seat.me.0.duties → k.seat.me.0.duties.pointed ≡ open_slot k.seat.me.0.duties) };
+}
+
+impl Keeper {
+    /// How many passes are out, 0 to `MOST_PASSES`.
+    pub fn out(&self) -> u32
+        ensures { result ≡ self.now.view.duties.out }
+    {
+        self.out
+    }
+
+    /// How many slots are free, 0 to `SLOTS`: so many pages can be opened before a closed one is collected.
+    pub fn free(&self) -> u32
+        ensures { result ≡ free_count self.now.view.duties }
+    {
+        free(&self.slots)
+    }
+
+    /// Whether a page is open.
+    pub fn has_open(&self) -> bool
+        ensures { IsTrue result ↔ HasOpen self.now.view.duties }
+    {
+        open_slot(&self.slots) < SLOTS
+    }
+
+    /// The page that is open.
+    pub fn open_page(&self) -> PageNo
+        requires open { HasOpen self.now.view.duties }
+        ensures { result.number ≡ open_page self.now.view.duties }
+    {
+        PageNo {
+            number: self.slots[usize::from(open_slot(&self.slots))].page,
+        }
+    }
+
+    /// The least page that is closed and not collected.
+    pub fn oldest(&self) -> Option<PageNo>
+        ensures waiting { IfSome result (λ page. IsWaiting self.now.view.duties page.number) }
+        ensures least { IfSome result (λ page. (other : ℕ)
+            → IsWaiting self.now.view.duties other → page.number ≤ other) }
+        ensures none { IsNone result → (page : ℕ) → IsWaiting self.now.view.duties page → ⊥ }
+    {
+        match oldest(&self.slots) {
+            Some(number) => Some(PageNo { number }),
+            None => None,
+        }
+    }
+}

@@ -1,0 +1,54 @@
+//! A router's pages as words that threads share: the running form of `gate_core`.
+//!
+//! # The plane
+//!
+//! A `Plane` is the words of a router: the current slot, four gates, and the bit words of four slots, each slot a Bloom filter for one
+//! page. Threads share it by reference. Its rule is `gate_core`'s plane invariant, which holds between any two operations of any
+//! threads, and each operation is one act of `gate_core` on one word.
+//!
+//! # Recording
+//!
+//! A thread records through a `Pass` of its own. `try_record` loads the current slot (look), adds one to its gate (enter), and finds
+//! in what it read whether the gate was sealed and which page it is in. Unsealed, it sets the k bits by fetch-or (set) and
+//! takes one from the gate (leave). Sealed, it leaves at once. It waits for nobody, takes no lock and no memory, and works out
+//! its k positions once.
+//!
+//! # The gate as an epoch
+//!
+//! What a pin is to epoch-based reclamation, an enter is to a page: the gate counts who is inside. A seal retires the page: who is
+//! inside finishes there, and nobody enters any more. Here the count, the seal and the page are one word, so one fetch-add
+//! pins and tells in which page.
+//!
+//! # Dealing and gathering
+//!
+//! The `Keeper` deals passes and gathers them. What a pass recorded is known to proofs alone, as its list of entries; no list is kept
+//! at run time. After `gather` the keeper has all entries, nobody is inside, and the bits of every page are exactly the marks
+//! of its entries.
+//!
+//! # What is proved
+//!
+//! `told` has the rule and what each operation tells; `proofs/Allowed` shows by `gate_core`'s one lemma that each act is allowed. The
+//! central contracts are `try_record` (an entry more, or a visit of a gate that was sealed then), `gather`, and `record_alone`,
+//! which finds the open page unsealed. Read `specs/Held`, `specs/Tried` and `specs/Slots` first, then `record`, `seats` and `trying`.
+#![tactic(auto)]
+
+mod deal;
+mod keeper;
+mod open;
+mod pass;
+mod plane;
+mod record;
+mod seal;
+mod seats;
+mod slots;
+mod steps;
+#[cfg(test)]
+mod tests;
+mod told;
+mod trying;
+mod words;
+
+pub use keeper::Keeper;
+pub use pass::Pass;
+pub use plane::Plane;
+pub use record::Tried;
