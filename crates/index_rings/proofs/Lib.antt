@@ -1,0 +1,5 @@
+pub mod Runs
+pub mod Parts
+pub mod Walks
+pub mod Filed
+pub mod Grown
