@@ -1,3 +1,4 @@
+mod BuiltLines
 mod Decoding
 mod ItemFields
 mod Lists

@@ -14,7 +14,7 @@ abbrev pub list_of : {X : Type 0} → (List ℕ → X) → List ℕ → List X
 list_of back text = cond (is_dash text) [] (map back (parts 44 text))
 
 -- how an item of a list is read back
-pub record Reads {X : Type 0} (text : X → List ℕ) (back : List ℕ → X) (x : X) : Type 0 where
+pub record IsReadBack {X : Type 0} (text : X → List ℕ) (back : List ℕ → X) (x : X) : Type 0 where
   pub same : back (text x) ≡ x
   pub space : lacks 32 (text x) ≡ true
   pub comma : lacks 44 (text x) ≡ true
@@ -29,26 +29,26 @@ each_turned P Q turn [] each = tt
 each_turned P Q turn (x ∷ xs) each = (turn x each.0, each_turned P Q turn xs each.1)
 
 module _ {X : Type 0} (text : X → List ℕ) (back : List ℕ → X) where
-  all_back : (xs : List X) → Each (Reads text back) xs → map back (map text xs) ≡ xs
+  all_back : (xs : List X) → Each (IsReadBack text back) xs → map back (map text xs) ≡ xs
   all_back [] each = refl
   all_back (x ∷ xs) each = λ i. (each.0).same i ∷ all_back xs each.1 i
 
-  pub list_back : (xs : List X) → Each (Reads text back) xs → list_of back (listed text xs) ≡ xs
+  pub list_back : (xs : List X) → Each (IsReadBack text back) xs → list_of back (listed text xs) ≡ xs
   list_back [] each = refl
   list_back (x ∷ xs) each =
-      let commas : Each (λ y. lacks 44 (text y) ≡ true) xs = each_turned (Reads text back) (λ y. lacks 44 (text y) ≡ true) (λ y r. r.comma) xs each.1 in
+      let commas : Each (λ y. lacks 44 (text y) ≡ true) xs = each_turned (IsReadBack text back) (λ y. lacks 44 (text y) ≡ true) (λ y r. r.comma) xs each.1 in
       (λ i. cond ((each.0).starts (flat_map (λ y. 44 ∷ text y) xs) i) [] (map back (parts_joined 44 text (text x) xs (each.0).comma commas i)))
       ∙ all_back (x ∷ xs) each
 
-  lacks-more : (xs : List X) → Each (Reads text back) xs → lacks 32 (flat_map (λ x. 44 ∷ text x) xs) ≡ true
+  lacks-more : (xs : List X) → Each (IsReadBack text back) xs → lacks 32 (flat_map (λ x. 44 ∷ text x) xs) ≡ true
   lacks-more [] each = refl
   lacks-more (x ∷ xs) each = lacks-append 32 (text x) (flat_map (λ y. 44 ∷ text y) xs) (each.0).space (lacks-more xs each.1)
 
-  pub lacks-listed : (xs : List X) → Each (Reads text back) xs → lacks 32 (listed text xs) ≡ true
+  pub lacks-listed : (xs : List X) → Each (IsReadBack text back) xs → lacks 32 (listed text xs) ≡ true
   lacks-listed [] each = refl
   lacks-listed (x ∷ xs) each = lacks-append 32 (text x) (flat_map (λ y. 44 ∷ text y) xs) (each.0).space (lacks-more xs each.1)
 
-page_reads : (page : PageNo) → IsPage page → Reads page_text page_of page
+page_reads : (page : PageNo) → IsPage page → IsReadBack page_text page_of page
 page_reads page small = record {
   same = page_back page small;
   space = lacks-decimal 32 page.number space small;
@@ -56,7 +56,7 @@ page_reads page small = record {
   starts = λ rest. no_dash-decimal page.number rest small;
 }
 
-bad_reads : (bad : Bad) → IsBad bad → Reads bad_one bad_of bad
+bad_reads : (bad : Bad) → IsBad bad → IsReadBack bad_one bad_of bad
 bad_reads bad small = record {
   same = bad_back bad small;
   space = bad_space bad small;
@@ -64,11 +64,11 @@ bad_reads bad small = record {
   starts = λ rest. bad_starts bad rest small;
 }
 
-each_page : (pages : List PageNo) → All IsPage pages → Each (Reads page_text page_of) pages
-each_page pages all = each_of IsPage (Reads page_text page_of) page_reads pages all
+each_page : (pages : List PageNo) → All IsPage pages → Each (IsReadBack page_text page_of) pages
+each_page pages all = each_of IsPage (IsReadBack page_text page_of) page_reads pages all
 
-each_bad : (bads : List Bad) → All IsBad bads → Each (Reads bad_one bad_of) bads
-each_bad bads all = each_of IsBad (Reads bad_one bad_of) bad_reads bads all
+each_bad : (bads : List Bad) → All IsBad bads → Each (IsReadBack bad_one bad_of) bads
+each_bad bads all = each_of IsBad (IsReadBack bad_one bad_of) bad_reads bads all
 
 pub pages_back : (pages : List PageNo) → All IsPage pages → list_of page_of (pages_text pages) ≡ pages
 pages_back pages all = list_back page_text page_of pages (each_page pages all)

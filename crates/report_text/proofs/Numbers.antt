@@ -5,8 +5,9 @@ use Rattle.std.proofs.lemmas.Fmt.{decimal_is_IsNumeral, decimal_nonempty}
 use Rattle.std.proofs.lemmas.Str.Parse.{digit_from_value}
 use Rattle.std.specs.Fmt.{decimal}
 use Rattle.std.specs.Str.Parse.{AllDigits, digits_value}
+use Rattle.spie_base.proofs.Booleans.{both_hold}
 use Rattle.report_text.specs.Laws.{IsCount}
-use Rattle.report_text.proofs.Pieces.{both_true, other_byte, lacks}
+use Rattle.report_text.proofs.Pieces.{other_byte, lacks}
 
 abbrev pub number_of : List ℕ → ℕ
 number_of text = digits_value 10 text
@@ -34,7 +35,7 @@ lacks-digits : (c : ℕ) (ds : List ℕ) → IsMark c → AllDigits 10 ds → la
 lacks-digits c [] mark all = refl
 lacks-digits c (d ∷ ds) mark all =
     let r = digit_from_value d all.0 in
-    both_true (not (d == c)) (lacks c ds) (other_byte c d (mark d r.0 r.1)) (lacks-digits c ds mark all.1)
+    both_hold (not (d == c)) (lacks c ds) (other_byte c d (mark d r.0 r.1)) (lacks-digits c ds mark all.1)
 
 pub lacks-decimal : (c n : ℕ) → IsMark c → IsCount n → lacks c (decimal n) ≡ true
 lacks-decimal c n mark small = lacks-digits c (decimal n) mark ((decimal_is_IsNumeral n small).0).1

@@ -11,9 +11,10 @@ use Rattle.spie_base.specs.declared.RouterId.{RouterId}
 use Rattle.spie_base.specs.declared.Sig.{Sig}
 use Rattle.topology.specs.Layout.{IsEachOnce, place_of}
 use Rattle.reverse_flood.specs.declared.Node.{Node}
+use Rattle.spie_base.proofs.Booleans.{both_hold}
 use Rattle.report_text.specs.Laws.{HasNoSpaces, IsPair}
 use Rattle.report_text.specs.Report.{IsNamed, name_of, sig_text}
-use Rattle.report_text.proofs.Pieces.{both_true, other_byte, lacks}
+use Rattle.report_text.proofs.Pieces.{other_byte, lacks}
 
 abbrev pub router_of : List (List ℕ) → List ℕ → RouterId
 router_of names text = record { number = place_of names text }
@@ -47,13 +48,13 @@ pub lacks-hex : (bytes : List ℕ) → lacks 32 (encode_lower bytes) ≡ true
 unfolding encode_with
 lacks-hex [] = refl
 lacks-hex (b ∷ rest) =
-    both_true (not (slice_index lower_digits (b / 16) == 32)) (not (slice_index lower_digits (b % 16) == 32) && lacks 32 (encode_lower rest)) (hex_space (b / 16))
-    (both_true (not (slice_index lower_digits (b % 16) == 32)) (lacks 32 (encode_lower rest)) (hex_space (b % 16)) (lacks-hex rest))
+    both_hold (not (slice_index lower_digits (b / 16) == 32)) (not (slice_index lower_digits (b % 16) == 32) && lacks 32 (encode_lower rest)) (hex_space (b / 16))
+    (both_hold (not (slice_index lower_digits (b % 16) == 32)) (lacks 32 (encode_lower rest)) (hex_space (b % 16)) (lacks-hex rest))
 
 lacks-word : (word : List ℕ) → All (λ byte. byte ≢ 32) word → lacks 32 word ≡ true
 lacks-word [] all = refl
 lacks-word (b ∷ bs) all =
-    both_true (not (b == 32)) (lacks 32 bs) (other_byte 32 b (All-head (λ byte. byte ≢ 32) b bs all)) (lacks-word bs (All-tail (λ byte. byte ≢ 32) b bs all))
+    both_hold (not (b == 32)) (lacks 32 bs) (other_byte 32 b (All-head (λ byte. byte ≢ 32) b bs all)) (lacks-word bs (All-tail (λ byte. byte ≢ 32) b bs all))
 
 pub lacks-name : (names : List (List ℕ)) (router : RouterId) → HasNoSpaces names → IsNamed names router → lacks 32 (name_of names router) ≡ true
 lacks-name names router none named = lacks-word (name_of names router) (none router.number [] named)

@@ -1,10 +1,11 @@
 -- Lists that are cut at a byte.
-use Rattle.std.proofs.Common.{◌≡◌, ℕ, List, [], ◌∷◌, ◌++◌, map, Bool, true, false, ◌&&◌, not, ◌==◌, refl, sym, ap, ◌∙◌}
+use Rattle.std.proofs.Common.{◌≡◌, ℕ, List, [], ◌∷◌, ◌++◌, map, Bool, true, false, ◌&&◌, not, ◌==◌, refl, ap, ◌∙◌}
 use Rattle.std.proofs.lemmas.Bool.{and_parts, eq-eqb, ne_eqb}
 use Rattle.std.proofs.lemmas.List.{append-nil}
 use Rattle.std.proofs.lemmas.List.Elements.{All-nil, All-cons}
 use Rattle.std.proofs.lemmas.List.Splits.{slice_split_none, slice_split_at}
 use Rattle.std.specs.List.{All, slice_split, flat_map}
+use Rattle.spie_base.proofs.Booleans.{both_hold, not_false}
 
 -- no element of the list is c
 abbrev pub lacks : ℕ → List ℕ → Bool
@@ -15,18 +16,11 @@ lacks c (b ∷ bs) = not (b == c) && lacks c bs
 abbrev pub parts : ℕ → List ℕ → List (List ℕ)
 parts c bs = slice_split (λ b. b == c) bs
 
-not_true : (b : Bool) → not b ≡ true → b ≡ false
-not_true true e = sym e
-not_true false e = refl
-
 lacks-all : (c : ℕ) (bs : List ℕ) → lacks c bs ≡ true → All (λ b. (b == c) ≡ false) bs
 lacks-all c [] e = All-nil (λ b. (b == c) ≡ false)
 lacks-all c (b ∷ bs) e =
     let both = and_parts (not (b == c)) (lacks c bs) e in
-    All-cons (λ b. (b == c) ≡ false) b bs (not_true (b == c) both.0) (lacks-all c bs both.1)
-
-pub both_true : (p q : Bool) → p ≡ true → q ≡ true → (p && q) ≡ true
-both_true p q e f = (λ i. e i && q) ∙ f
+    All-cons (λ b. (b == c) ≡ false) b bs (not_false (b == c) both.0) (lacks-all c bs both.1)
 
 pub other_byte : (c d : ℕ) → (d ≡ c → ⊥) → not (d == c) ≡ true
 other_byte c d apart = ap not (ne_eqb d c apart)
@@ -35,16 +29,13 @@ pub lacks-append : (c : ℕ) (xs ys : List ℕ) → lacks c xs ≡ true → lack
 lacks-append c [] ys e f = f
 lacks-append c (b ∷ bs) ys e f =
     let both = and_parts (not (b == c)) (lacks c bs) e in
-    both_true (not (b == c)) (lacks c (bs ++ ys)) both.0 (lacks-append c bs ys both.1 f)
+    both_hold (not (b == c)) (lacks c (bs ++ ys)) both.0 (lacks-append c bs ys both.1 f)
 
 pub parts_one : (c : ℕ) (bs : List ℕ) → lacks c bs ≡ true → parts c bs ≡ bs ∷ []
 parts_one c bs e = slice_split_none (λ b. b == c) bs (lacks-all c bs e)
 
-eqb_self : (c : ℕ) → (c == c) ≡ true
-eqb_self c = eq-eqb c c refl
-
 pub parts_more : (c : ℕ) (bs rest : List ℕ) → lacks c bs ≡ true → parts c (bs ++ c ∷ rest) ≡ bs ∷ parts c rest
-parts_more c bs rest e = slice_split_at (λ b. b == c) bs c rest (lacks-all c bs e) (eqb_self c)
+parts_more c bs rest e = slice_split_at (λ b. b == c) bs c rest (lacks-all c bs e) (eq-eqb c c refl)
 
 -- a test passes at each element
 abbrev pub Each : {X : Type 0} → (X → Type 0) → List X → Type 0

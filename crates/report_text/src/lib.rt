@@ -6,6 +6,7 @@
 //! the code, one function a kind of line, and `laws` for what the text determines.
 #![tactic(auto)]
 
+mod backwards;
 mod fields;
 mod items;
 pub mod laws;
@@ -17,6 +18,3 @@ pub use lines::push_item;
 // For other texts of such lines.
 pub use fields::{push, push_count, push_field, push_number};
 pub use lines::{push_counted, push_word};
-
-#[cfg(test)]
-mod tests;

@@ -1,7 +1,6 @@
 -- What is spelled so is read.
 use Rattle.std.proofs.Common.{ℕ, ◌≡◌, ◌/◌, ◌%◌, ◌^◌, ◌≤◌, ◌<◌, List, [], ◌∷◌, length, refl, arith, sym, subst, Result, Ok, Err, Bool, true, false, cond, ◌==◌, ◌&&◌, nat_lt, nat_le, lit<}
 use Rattle.std.proofs.lemmas.Bool.Decides.{nat_tests}
-use Rattle.std.proofs.Math.Pow.{pow_mono}
 use Rattle.std.specs.Fmt.{decimal}
 use Rattle.std.specs.Int.{w64, from_be_bytes}
 use Rattle.std.specs.declared.option.Option.{Option}
@@ -10,17 +9,22 @@ use Rattle.hex.specs.Hex.{decode_pairs}
 use Rattle.hex.specs.declared.error.FromHexError.{FromHexError}
 use Rattle.hex.specs.declared.error.FromHexError.TheVariants.{OddLength, InvalidStringLength}
 use Rattle.spie_base.specs.declared.types.Rules.{Rules}
+use Rattle.spie_base.proofs.Booleans.{both_hold}
+use Rattle.spie_base.proofs.Bounds.{within}
+use Rattle.spie_base.specs.declared.types.TheConstants.{K_MOST, N_LEAST}
+use Rattle.trace_format.proofs.FieldForms.{small}
 use Rattle.spie_base.proofs.DecimalText.{number_in_some}
 use Rattle.trace_format.specs.Before.{Known}
-use Rattle.trace_format.specs.Reading.{judged, number, number_by, name_in, kind_in, bytes_in, bytes_by, base_of, base_by, front_in, times_in, back_in, shape_in, grown, step, read_line, line_by, by_fields, word_of, version_fields, version_line, shape_line, router_fields, router_line, link_fields, link_line, begin_line, packet_line, fwd_fields, fwd_line, xf_fields, xf_line, rotate_line, archive_line, watch_fields, watch_line, tick_line, query_fields, query_line, end_line}
+use Rattle.trace_format.specs.Reading.{judged, number, number_by, name_in, kind_in, bytes_in, bytes_by, base_of, base_by, front_in, times_in, back_in, shape_in, grown, accept, read_line, line_by, by_fields, word_of, version_fields, version_line, shape_line, router_fields, router_line, link_fields, link_line, begin_line, packet_line, fwd_fields, fwd_line, xf_fields, xf_line, rotate_line, archive_line, watch_fields, watch_line, tick_line, query_fields, query_line, end_line}
 use Rattle.trace_format.specs.Spelling.{Spells, IsName, IsHex, IsBase, IsFront, IsBack, kind_word}
 use Rattle.trace_format.specs.Text.{fields}
-use Rattle.trace_format.specs.Words.{word_said, may_stand}
+use Rattle.trace_format.specs.Words.{word_said, may_come}
 use Rattle.trace_format.specs.Said.{Said}
 use Rattle.trace_format.specs.Said as said
 use Rattle.packet_signature.specs.declared.rows.Kind.{Kind}
 use Rattle.packet_signature.specs.declared.rows.Kind.TheVariants as kind
-use Rattle.trace_format.specs.Limits.{most_digits, most_line_bytes, most_number, most_time}
+use Rattle.trace_format.specs.Limits.{most_digits}
+use Rattle.trace_format.specs.declared.limits.TheConstants.{VERSION_1_N_MOST, MOST_LINE_BYTES, MOST_NUMBER, MOST_TIME}
 use Rattle.trace_format.specs.declared.refused.WhyRefused.TheVariants as why
 
 number_again_by : (found : Option ℕ) (least n : ℕ) → found ≡ Some n → nat_lt n least ≡ false → number_by found least ≡ Ok n
@@ -29,7 +33,7 @@ number_again_by found least n e t = rw (e, t) refl
 pub number_again : (least most n : ℕ) → most < 2 ^ 64 → least ≤ n → n ≤ most → number (decimal n) least most ≡ Ok n
 unfolding number
 number_again least most n small low high =
-    let t : nat_lt n least ≡ false = grind (arith, nat_tests) in
+    let t : nat_lt n least ≡ false = within n least low in
     number_again_by _ least n (number_in_some (decimal n) most n (omega arith) high refl) t
 
 name_again : (name : List ℕ) → IsName name → name_in name ≡ Ok tt
@@ -55,72 +59,66 @@ bytes_back : (odd fit size : Bool) (r : Result (List ℕ) FromHexError) (b : Lis
 bytes_back true fit size r b f s e = absurd (cc)
 bytes_back false fit size r b f s e = rw (f, s, e) refl
 
-two : (a b : Bool) → a ≡ true → b ≡ true → (a && b) ≡ true
-two a b p q = rw (p, q) refl
-
 bytes_again : (digits b : List ℕ) → IsHex digits b → 2 ≤ length digits → length digits ≤ most_digits → bytes_in digits ≡ Ok b
 unfolding bytes_in
 bytes_again digits b h low high =
     let fit : (length digits / 2 == length digits / 2) ≡ true = grind (arith, nat_tests) in
     let a : nat_le 2 (length digits) ≡ true = grind (arith, nat_tests) in
     let z : nat_le (length digits) most_digits ≡ true = grind (arith, nat_tests) in
-    bytes_back (length digits % 2 == 1) (length digits / 2 == length digits / 2) (nat_le 2 (length digits) && nat_le (length digits) most_digits) (decode_pairs 0 digits) b fit (two _ _ a z) h
-
-small : (n : ℕ) → n ≤ 16 → 2 ^ n < 2 ^ 64
-small n le = let p : 2 ^ n ≤ 2 ^ 16 = pow_mono le in omega (arith, p)
+    bytes_back (length digits % 2 == 1) (length digits / 2 == length digits / 2) (nat_le 2 (length digits) && nat_le (length digits) most_digits) (decode_pairs 0 digits) b fit (both_hold _ _ a z) h
 
 shape_again : (r : Rules) (base : List ℕ) → IsFront r → IsBack r → IsBase base r.base → shape_in (decimal r.k ∷ decimal r.n ∷ decimal r.limit ∷ decimal r.span ∷ decimal r.keep ∷ decimal r.age ∷ decimal r.width ∷ base ∷ []) ≡ Ok r
 unfolding shape_in front_in back_in times_in
 shape_again r base f b h =
-    rw (number_again 1 8 r.k (lit< tt) f.k.0 f.k.1, number_again 6 16 r.n (lit< tt) f.n.0 f.n.1, number_again 1 (2 ^ r.n) r.limit (small r.n f.n.1) f.limit.0 f.limit.1, number_again 1 most_time r.span (lit< tt) f.span.0 f.span.1, number_again 1 32 r.keep (lit< tt) b.keep.0 b.keep.1, number_again 1 most_time r.age (lit< tt) b.age.0 b.age.1, number_again 0 most_time r.width (lit< tt) (omega arith) b.width, base_again base r.base h) refl
+    rw (number_again 1 K_MOST r.k (lit< tt) f.k.0 f.k.1, number_again N_LEAST VERSION_1_N_MOST r.n (lit< tt) f.n.0 f.n.1, number_again 1 (2 ^ r.n) r.limit (small r.n f.n.1) f.limit.0 f.limit.1, number_again 1 MOST_TIME r.span (lit< tt) f.span.0 f.span.1, number_again 1 32 r.keep (lit< tt) b.keep.0 b.keep.1, number_again 1 MOST_TIME r.age (lit< tt) b.age.0 b.age.1, number_again 0 MOST_TIME r.width (lit< tt) (omega arith) b.width, base_again base r.base h) refl
 
-step_again : (known : Known) (said : Said) → judged known said ≡ Ok tt → step known said ≡ Ok (grown known said)
-unfolding step
-step_again known said j = rw j refl
+accept_again : (known : Known) (said : Said) → judged known said ≡ Ok tt → accept known said ≡ Ok (grown known said)
+unfolding accept
+accept_again known said j = rw j refl
 
 at_fields : (known : Known) (said : Said) (a b : List (List ℕ)) → a ≡ b → by_fields known b ≡ Ok (grown known said) → by_fields known a ≡ Ok (grown known said)
 at_fields known said a b e h = let P : List (List ℕ) → Type 0 = λ z. by_fields known z ≡ Ok (grown known said) in subst P (sym e) h
 
-pub fields_again : (known : Known) (s : Said) (parts : List (List ℕ)) → may_stand known.stage (word_said s) ≡ true → Spells s parts → judged known s ≡ Ok tt → by_fields known parts ≡ Ok (grown known s)
+pub fields_again : (known : Known) (s : Said) (parts : List (List ℕ)) → may_come known.stage (word_said s) ≡ true → Spells s parts → judged known s ≡ Ok tt → by_fields known parts ≡ Ok (grown known s)
 unfolding word_of line_by version_line version_fields shape_line router_line router_fields link_line link_fields begin_line packet_line fwd_line fwd_fields xf_line xf_fields rotate_line archive_line watch_line watch_fields tick_line query_line query_fields end_line
-fields_again known said.Version parts m s j = at_fields known said.Version _ _ s (rw (m, step_again known said.Version j) refl)
-fields_again known (said.Shape r) parts m s j = at_fields known (said.Shape r) _ _ s.1 (rw (m, shape_again r s.0 s.2 s.3 s.4, step_again known (said.Shape r) j) refl)
-fields_again known (said.Router a b) parts m s j = at_fields known (said.Router a b) _ _ s.0 (rw (m, name_again a s.1, name_again b s.2, step_again known (said.Router a b) j) refl)
-fields_again known (said.Link a b) parts m s j = at_fields known (said.Link a b) _ _ s.0 (rw (m, name_again a s.1, name_again b s.2, step_again known (said.Link a b) j) refl)
-fields_again known said.Begin parts m s j = at_fields known said.Begin _ _ s (rw (m, step_again known said.Begin j) refl)
-fields_again known (said.Packet bytes) parts m s j = at_fields known (said.Packet bytes) _ _ s.1 (rw (m, bytes_again s.0 bytes s.2 s.3 s.4, step_again known (said.Packet bytes) j) refl)
-fields_again known (said.Fwd a n) parts m s j = at_fields known (said.Fwd a n) _ _ s.0 (rw (m, name_again a s.1, number_again 0 most_number n (lit< tt) (omega arith) s.2, step_again known (said.Fwd a n) j) refl)
-fields_again known (said.Xf a k o n) parts m s j = at_fields known (said.Xf a k o n) _ _ s.0 (rw (m, name_again a s.1, kind_again k, number_again 0 most_number o (lit< tt) (omega arith) s.2, number_again 0 most_number n (lit< tt) (omega arith) s.3, step_again known (said.Xf a k o n) j) refl)
-fields_again known (said.Rotate a) parts m s j = at_fields known (said.Rotate a) _ _ s.0 (rw (m, name_again a s.1, step_again known (said.Rotate a) j) refl)
-fields_again known (said.Archive a) parts m s j = at_fields known (said.Archive a) _ _ s.0 (rw (m, name_again a s.1, step_again known (said.Archive a) j) refl)
-fields_again known (said.Watch a n) parts m s j = at_fields known (said.Watch a n) _ _ s.0 (rw (m, name_again a s.1, number_again 0 most_number n (lit< tt) (omega arith) s.2, step_again known (said.Watch a n) j) refl)
-fields_again known (said.Tick t) parts m s j = at_fields known (said.Tick t) _ _ s.0 (rw (m, number_again 0 most_time t (lit< tt) (omega arith) s.1, step_again known (said.Tick t) j) refl)
-fields_again known (said.Query a n t) parts m s j = at_fields known (said.Query a n t) _ _ s.0 (rw (m, name_again a s.1, number_again 0 most_number n (lit< tt) (omega arith) s.2, number_again 0 most_time t (lit< tt) (omega arith) s.3, step_again known (said.Query a n t) j) refl)
-fields_again known said.End parts m s j = at_fields known said.End _ _ s (rw (m, step_again known said.End j) refl)
+fields_again known said.Version parts m s j = at_fields known said.Version _ _ s (rw (m, accept_again known said.Version j) refl)
+fields_again known (said.Shape r) parts m s j = at_fields known (said.Shape r) _ _ s.1 (rw (m, shape_again r s.0 s.2 s.3 s.4, accept_again known (said.Shape r) j) refl)
+fields_again known (said.Router a b) parts m s j = at_fields known (said.Router a b) _ _ s.0 (rw (m, name_again a s.1, name_again b s.2, accept_again known (said.Router a b) j) refl)
+fields_again known (said.Link a b) parts m s j = at_fields known (said.Link a b) _ _ s.0 (rw (m, name_again a s.1, name_again b s.2, accept_again known (said.Link a b) j) refl)
+fields_again known said.Begin parts m s j = at_fields known said.Begin _ _ s (rw (m, accept_again known said.Begin j) refl)
+fields_again known (said.Packet bytes) parts m s j = at_fields known (said.Packet bytes) _ _ s.1 (rw (m, bytes_again s.0 bytes s.2 s.3 s.4, accept_again known (said.Packet bytes) j) refl)
+fields_again known (said.Fwd a n) parts m s j = at_fields known (said.Fwd a n) _ _ s.0 (rw (m, name_again a s.1, number_again 0 MOST_NUMBER n (lit< tt) (omega arith) s.2, accept_again known (said.Fwd a n) j) refl)
+fields_again known (said.Xf a k o n) parts m s j = at_fields known (said.Xf a k o n) _ _ s.0 (rw (m, name_again a s.1, kind_again k, number_again 0 MOST_NUMBER o (lit< tt) (omega arith) s.2, number_again 0 MOST_NUMBER n (lit< tt) (omega arith) s.3, accept_again known (said.Xf a k o n) j) refl)
+fields_again known (said.Rotate a) parts m s j = at_fields known (said.Rotate a) _ _ s.0 (rw (m, name_again a s.1, accept_again known (said.Rotate a) j) refl)
+fields_again known (said.Archive a) parts m s j = at_fields known (said.Archive a) _ _ s.0 (rw (m, name_again a s.1, accept_again known (said.Archive a) j) refl)
+fields_again known (said.Watch a n) parts m s j = at_fields known (said.Watch a n) _ _ s.0 (rw (m, name_again a s.1, number_again 0 MOST_NUMBER n (lit< tt) (omega arith) s.2, accept_again known (said.Watch a n) j) refl)
+fields_again known (said.Tick t) parts m s j = at_fields known (said.Tick t) _ _ s.0 (rw (m, number_again 0 MOST_TIME t (lit< tt) (omega arith) s.1, accept_again known (said.Tick t) j) refl)
+fields_again known (said.Query a n t) parts m s j = at_fields known (said.Query a n t) _ _ s.0 (rw (m, name_again a s.1, number_again 0 MOST_NUMBER n (lit< tt) (omega arith) s.2, number_again 0 MOST_TIME t (lit< tt) (omega arith) s.3, accept_again known (said.Query a n t) j) refl)
+fields_again known said.End parts m s j = at_fields known said.End _ _ s (rw (m, accept_again known said.End j) refl)
 
-pub read_again : (known : Known) (s : Said) (text : List ℕ) → length text ≤ most_line_bytes → may_stand known.stage (word_said s) ≡ true → Spells s (fields text) → judged known s ≡ Ok tt → read_line known text ≡ Ok (grown known s)
+pub read_again : (known : Known) (s : Said) (text : List ℕ) → length text ≤ MOST_LINE_BYTES → may_come known.stage (word_said s) ≡ true → Spells s (fields text) → judged known s ≡ Ok tt → read_line known text ≡ Ok (grown known s)
 unfolding read_line
 read_again known s text short m sp j =
-    let t : nat_lt most_line_bytes (length text) ≡ false = grind (arith, nat_tests) in
+    let t : nat_lt MOST_LINE_BYTES (length text) ≡ false = within MOST_LINE_BYTES (length text) short in
     rw t (fields_again known s (fields text) m sp j)
 
-at_step : (known : Known) (s : Said) (a b : List (List ℕ)) → a ≡ b → by_fields known b ≡ cond (may_stand known.stage (word_said s)) (step known s) (Err why.Word) → by_fields known a ≡ cond (may_stand known.stage (word_said s)) (step known s) (Err why.Word)
-at_step known s a b e h = let P : List (List ℕ) → Type 0 = λ z. by_fields known z ≡ cond (may_stand known.stage (word_said s)) (step known s) (Err why.Word) in subst P (sym e) h
+at_accept : (known : Known) (s : Said) (a b : List (List ℕ)) → a ≡ b → by_fields known b ≡ cond (may_come known.stage (word_said s)) (accept known s) (Err why.Word) → by_fields known a ≡ cond (may_come known.stage (word_said s)) (accept known s) (Err why.Word)
+at_accept known s a b e h = let P : List (List ℕ) → Type 0 = λ z. by_fields known z ≡ cond (may_come known.stage (word_said s)) (accept known s) (Err why.Word) in subst P (sym e) h
 
 -- a line that says something is judged by its rules
-pub spelled_reads : (known : Known) (s : Said) (parts : List (List ℕ)) → Spells s parts → by_fields known parts ≡ cond (may_stand known.stage (word_said s)) (step known s) (Err why.Word)
+pub spelled_reads : (known : Known) (s : Said) (parts : List (List ℕ)) → Spells s parts → by_fields known parts ≡ cond (may_come known.stage (word_said s)) (accept known s) (Err why.Word)
 unfolding word_of line_by version_line version_fields shape_line router_line router_fields link_line link_fields begin_line packet_line fwd_line fwd_fields xf_line xf_fields rotate_line archive_line watch_line watch_fields tick_line query_line query_fields end_line
-spelled_reads known said.Version parts s = at_step known said.Version _ _ s refl
-spelled_reads known (said.Shape r) parts s = at_step known (said.Shape r) _ _ s.1 (rw (shape_again r s.0 s.2 s.3 s.4) refl)
-spelled_reads known (said.Router a b) parts s = at_step known (said.Router a b) _ _ s.0 (rw (name_again a s.1, name_again b s.2) refl)
-spelled_reads known (said.Link a b) parts s = at_step known (said.Link a b) _ _ s.0 (rw (name_again a s.1, name_again b s.2) refl)
-spelled_reads known said.Begin parts s = at_step known said.Begin _ _ s refl
-spelled_reads known (said.Packet bytes) parts s = at_step known (said.Packet bytes) _ _ s.1 (rw (bytes_again s.0 bytes s.2 s.3 s.4) refl)
-spelled_reads known (said.Fwd a n) parts s = at_step known (said.Fwd a n) _ _ s.0 (rw (name_again a s.1, number_again 0 most_number n (lit< tt) (omega arith) s.2) refl)
-spelled_reads known (said.Xf a k o n) parts s = at_step known (said.Xf a k o n) _ _ s.0 (rw (name_again a s.1, kind_again k, number_again 0 most_number o (lit< tt) (omega arith) s.2, number_again 0 most_number n (lit< tt) (omega arith) s.3) refl)
-spelled_reads known (said.Rotate a) parts s = at_step known (said.Rotate a) _ _ s.0 (rw (name_again a s.1) refl)
-spelled_reads known (said.Archive a) parts s = at_step known (said.Archive a) _ _ s.0 (rw (name_again a s.1) refl)
-spelled_reads known (said.Watch a n) parts s = at_step known (said.Watch a n) _ _ s.0 (rw (name_again a s.1, number_again 0 most_number n (lit< tt) (omega arith) s.2) refl)
-spelled_reads known (said.Tick t) parts s = at_step known (said.Tick t) _ _ s.0 (rw (number_again 0 most_time t (lit< tt) (omega arith) s.1) refl)
-spelled_reads known (said.Query a n t) parts s = at_step known (said.Query a n t) _ _ s.0 (rw (name_again a s.1, number_again 0 most_number n (lit< tt) (omega arith) s.2, number_again 0 most_time t (lit< tt) (omega arith) s.3) refl)
-spelled_reads known said.End parts s = at_step known said.End _ _ s refl
+spelled_reads known said.Version parts s = at_accept known said.Version _ _ s refl
+spelled_reads known (said.Shape r) parts s = at_accept known (said.Shape r) _ _ s.1 (rw (shape_again r s.0 s.2 s.3 s.4) refl)
+spelled_reads known (said.Router a b) parts s = at_accept known (said.Router a b) _ _ s.0 (rw (name_again a s.1, name_again b s.2) refl)
+spelled_reads known (said.Link a b) parts s = at_accept known (said.Link a b) _ _ s.0 (rw (name_again a s.1, name_again b s.2) refl)
+spelled_reads known said.Begin parts s = at_accept known said.Begin _ _ s refl
+spelled_reads known (said.Packet bytes) parts s = at_accept known (said.Packet bytes) _ _ s.1 (rw (bytes_again s.0 bytes s.2 s.3 s.4) refl)
+spelled_reads known (said.Fwd a n) parts s = at_accept known (said.Fwd a n) _ _ s.0 (rw (name_again a s.1, number_again 0 MOST_NUMBER n (lit< tt) (omega arith) s.2) refl)
+spelled_reads known (said.Xf a k o n) parts s = at_accept known (said.Xf a k o n) _ _ s.0 (rw (name_again a s.1, kind_again k, number_again 0 MOST_NUMBER o (lit< tt) (omega arith) s.2, number_again 0 MOST_NUMBER n (lit< tt) (omega arith) s.3) refl)
+spelled_reads known (said.Rotate a) parts s = at_accept known (said.Rotate a) _ _ s.0 (rw (name_again a s.1) refl)
+spelled_reads known (said.Archive a) parts s = at_accept known (said.Archive a) _ _ s.0 (rw (name_again a s.1) refl)
+spelled_reads known (said.Watch a n) parts s = at_accept known (said.Watch a n) _ _ s.0 (rw (name_again a s.1, number_again 0 MOST_NUMBER n (lit< tt) (omega arith) s.2) refl)
+spelled_reads known (said.Tick t) parts s = at_accept known (said.Tick t) _ _ s.0 (rw (number_again 0 MOST_TIME t (lit< tt) (omega arith) s.1) refl)
+spelled_reads known (said.Query a n t) parts s = at_accept known (said.Query a n t) _ _ s.0 (rw (name_again a s.1, number_again 0 MOST_NUMBER n (lit< tt) (omega arith) s.2, number_again 0 MOST_TIME t (lit< tt) (omega arith) s.3) refl)
+spelled_reads known said.End parts s = at_accept known said.End _ _ s refl

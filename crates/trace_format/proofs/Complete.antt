@@ -1,6 +1,6 @@
 -- A trace is read.
-use Rattle.std.proofs.Common.{ℕ, ◌≡◌, ◌≤◌, List, [], ◌∷◌, length, refl, ap, arith, sym, ◌∙◌, Ok, true, false, nat_lt}
-use Rattle.std.proofs.lemmas.Bool.Decides.{nat_tests}
+use Rattle.std.proofs.Common.{ℕ, ◌≡◌, List, [], ◌∷◌, length, refl, ap, sym, ◌∙◌, Ok, true, false, nat_lt}
+use Rattle.spie_base.proofs.Bounds.{within}
 use Rattle.trace_format.specs.declared.items.Trace.{Trace}
 use Rattle.trace_format.specs.declared.words.Stage.{Stage}
 use Rattle.trace_format.specs.declared.words.Stage.TheVariants as stage
@@ -10,14 +10,14 @@ use Rattle.trace_format.specs.Before.{known_of}
 use Rattle.trace_format.specs.Reading.{read_line, read_lines, known_in, grown, read_of}
 use Rattle.trace_format.specs.Text.{lines}
 use Rattle.trace_format.specs.Trace.{Begins, IsLine, IsTrace}
-use Rattle.trace_format.specs.Words.{stage_of, word_said, is_over, may_stand}
+use Rattle.trace_format.specs.Words.{stage_of, word_said, is_over, may_come}
 use Rattle.trace_format.specs.Said.{Said}
 use Rattle.trace_format.proofs.Growing.{grown_known}
 use Rattle.trace_format.proofs.Again.{read_again}
-use Rattle.trace_format.specs.Limits.{most_bytes}
+use Rattle.trace_format.specs.declared.limits.TheConstants.{MOST_BYTES}
 use Rattle.trace_format.proofs.Taken.{fits_judged}
 
-pub open_stage : (s : Stage) (w : Word) → may_stand s w ≡ true → is_over s ≡ false
+pub open_stage : (s : Stage) (w : Word) → may_come s w ≡ true → is_over s ≡ false
 open_stage stage.Version w e = refl
 open_stage stage.Shape w e = refl
 open_stage stage.Declarations w e = refl
@@ -52,13 +52,10 @@ ended : (said : List Said) → is_over (stage_of said) ≡ true → read_lines (
 unfolding read_lines
 ended said o = rw o refl
 
-below_most : (n : ℕ) → n ≤ most_bytes → nat_lt most_bytes n ≡ false
-below_most n h = grind (arith, nat_tests)
-
 -- a trace's text reads as it
 pub trace_is_read : (text : List ℕ) (trace : Trace) → IsTrace text trace → read_of text ≡ Ok trace
 unfolding read_of known_in
 trace_is_read text trace t =
-    let z : nat_lt most_bytes (length text) ≡ false = below_most (length text) t.fits in
+    let z : nat_lt MOST_BYTES (length text) ≡ false = within MOST_BYTES (length text) t.fits in
     let k : read_lines (known_of []) (lines text) ≡ Ok (known_of t.said) = complete (lines text) t.said [] [] t.lines_say ∙ ended t.said t.ended in
     rw (z, k) (ap (λ v. Ok v) (sym t.trace_is))

@@ -1,5 +1,5 @@
 -- What a field that is read looks like.
-use Rattle.std.proofs.Common.{ℕ, ◌≡◌, ◌/◌, ◌%◌, ◌^◌, ◌≤◌, ◌<◌, List, [], ◌∷◌, length, refl, ap, arith, sym, ◌∙◌, rules, Result, Ok, Err, Bool, true, false, cond, ◌==◌, ◌&&◌, nat_lt, nat_le, lit<, ◌⊎◌, inl, inr, subst}
+use Rattle.std.proofs.Common.{ℕ, ◌≡◌, ◌/◌, ◌%◌, ◌^◌, ◌≤◌, ◌<◌, List, [], ◌∷◌, length, refl, ap, arith, sym, ◌∙◌, rules, Result, Ok, Err, Bool, true, false, cond, ◌==◌, nat_lt, nat_le, lit<, ◌⊎◌, inl, inr, subst}
 use Rattle.std.proofs.lemmas.Bool.Decides.{nat_tests}
 use Rattle.std.proofs.lemmas.Slice.Eq.{bytes_eq-Decides}
 use Rattle.std.specs.Bool.{Decides}
@@ -23,11 +23,15 @@ use Rattle.hex.specs.Hex.{decode_pairs}
 use Rattle.hex.specs.declared.error.FromHexError.{FromHexError}
 use Rattle.hex.specs.declared.error.FromHexError.TheVariants.{OddLength, InvalidStringLength}
 use Rattle.spie_base.specs.Decimal.{number_in as decimal_in}
+use Rattle.spie_base.proofs.Booleans.{both_held}
+use Rattle.spie_base.specs.declared.types.TheConstants.{K_MOST, N_LEAST}
+use Rattle.trace_format.proofs.Binds.{bind_ok, err_is, taken}
 use Rattle.trace_format.proofs.DecimalFields.{number_in_ok}
 use Rattle.packet_signature.specs.declared.rows.Kind.{Kind}
 use Rattle.packet_signature.specs.declared.rows.Kind.TheVariants as kind
 use Rattle.trace_format.specs.declared.refused.WhyRefused.{WhyRefused}
-use Rattle.trace_format.specs.Limits.{most_digits, most_time}
+use Rattle.trace_format.specs.Limits.{most_digits}
+use Rattle.trace_format.specs.declared.limits.TheConstants.{MOST_TIME, VERSION_1_N_MOST}
 use Rattle.trace_format.specs.declared.refused.WhyRefused.TheVariants as why
 
 -- a field that is a number from least to most
@@ -117,11 +121,6 @@ word_again word.Tick = refl
 word_again word.Query = refl
 word_again word.End = refl
 
-halves : (a b : Bool) → (a && b) ≡ true → (a ≡ true) × (b ≡ true)
-halves true true e = (refl, refl)
-halves true false e = absurd (cc)
-halves false b e = absurd (cc)
-
 sized_by : (odd fit : Bool) (r : Result (List ℕ) FromHexError) (b : List ℕ) → cond odd (Err OddLength) (cond fit r (Err InvalidStringLength)) ≡ Ok b → cond odd (Err OddLength) r ≡ Ok b
 sized_by true fit r b e = absurd (cc)
 sized_by false true r b e = e
@@ -131,15 +130,11 @@ bytes_by_ok : (r : Result (List ℕ) FromHexError) (b : List ℕ) → bytes_by r
 bytes_by_ok (Ok x) b e = let q : x ≡ b = cc in rw q refl
 bytes_by_ok (Err w) b e = absurd (cc)
 
-taken : {A : Type 0} (b : Bool) (w : WhyRefused) (r : Result A WhyRefused) (y : A) → cond b r (Err w) ≡ Ok y → (b ≡ true) × (r ≡ Ok y)
-taken true w r y e = (refl, e)
-taken false w r y e = absurd (cc)
-
 pub bytes_ok : (digits b : List ℕ) → bytes_in digits ≡ Ok b → IsHex digits b × (2 ≤ length digits) × (length digits ≤ most_digits)
 unfolding bytes_in
 bytes_ok digits b e =
     let t = taken _ _ _ b e in
-    let h = halves _ _ t.0 in
+    let h = both_held _ _ t.0 in
     let low : nat_le 2 (length digits) ≡ true = h.0 in
     let high : nat_le (length digits) most_digits ≡ true = h.1 in
     (sized_by (length digits % 2 == 1) (length digits / 2 == length digits / 2) (decode_pairs 0 digits) b (bytes_by_ok _ b t.1), grind (arith, nat_tests), grind (arith, nat_tests))
@@ -157,17 +152,13 @@ ok_same x y e = cc
 
 -- the front and the back of a shape line
 pub record Fronts (k n limit span : List ℕ) (r : Rules) : Type 0 where
-  pub k_is : IsNumber k 1 8 r.k
-  pub n_is : IsNumber n 6 16 r.n
+  pub k_is : IsNumber k 1 K_MOST r.k
+  pub n_is : IsNumber n N_LEAST VERSION_1_N_MOST r.n
   pub limit_is : IsNumber limit 1 (2 ^ r.n) r.limit
-  pub span_is : IsNumber span 1 most_time r.span
+  pub span_is : IsNumber span 1 MOST_TIME r.span
 
-bind_two : {A B : Type 0} (r : Result A WhyRefused) (f : A → Result B WhyRefused) (y : B) → (r >>= f) ≡ Ok y → (x : A) × (r ≡ Ok x) × (f x ≡ Ok y)
-bind_two (Ok x) f y e = (x, refl, e)
-bind_two (Err w) f y e = absurd (cc)
-
-small : (n : ℕ) → n ≤ 16 → 2 ^ n < 2 ^ 64
-small n le = let p : 2 ^ n ≤ 2 ^ 16 = pow_mono le in omega (arith, p)
+pub small : (n : ℕ) → n ≤ VERSION_1_N_MOST → 2 ^ n < 2 ^ 64
+small n le = let p : 2 ^ n ≤ 2 ^ VERSION_1_N_MOST = pow_mono le in omega (arith, p)
 
 along : (k n limit span : List ℕ) (r s : Rules) → r ≡ s → Fronts k n limit span r → Fronts k n limit span s
 along k n limit span r s e f = let P : Rules → Type 0 = λ v. Fronts k n limit span v in subst P e f
@@ -175,18 +166,18 @@ along k n limit span r s e f = let P : Rules → Type 0 = λ v. Fronts k n limit
 pub front_ok : (k n limit span : List ℕ) (r : Rules) → front_in k n limit span ≡ Ok r → Fronts k n limit span r
 unfolding front_in
 front_ok k n limit span r e =
-    let a = bind_two (number k 1 8) (λ k. number n 6 16 >>= (λ n. number limit 1 (2 ^ n) >>= (λ limit. number span 1 most_time >>= (λ span. Ok (record no_rules { k = k; n = n; limit = limit; span = span }))))) r e in
-    let b = bind_two (number n 6 16) (λ n. number limit 1 (2 ^ n) >>= (λ limit. number span 1 most_time >>= (λ span. Ok (record no_rules { k = a.0; n = n; limit = limit; span = span })))) r a.2 in
-    let c = bind_two (number limit 1 (2 ^ b.0)) (λ limit. number span 1 most_time >>= (λ span. Ok (record no_rules { k = a.0; n = b.0; limit = limit; span = span }))) r b.2 in
-    let d = bind_two (number span 1 most_time) (λ span. Ok (record no_rules { k = a.0; n = b.0; limit = c.0; span = span })) r c.2 in
-    let ns = number_ok n 6 16 b.0 (lit< tt) b.1 in
-    let q : record no_rules { k = a.0; n = b.0; limit = c.0; span = d.0 } ≡ r = ok_same _ _ d.2 in
-    along k n limit span _ r q (record { k_is = number_ok k 1 8 a.0 (lit< tt) a.1; n_is = ns; limit_is = number_ok limit 1 (2 ^ b.0) c.0 (small b.0 ns.high) c.1; span_is = number_ok span 1 most_time d.0 (lit< tt) d.1 })
+    let a = bind_ok (number k 1 K_MOST) (λ k. number n N_LEAST VERSION_1_N_MOST >>= (λ n. number limit 1 (2 ^ n) >>= (λ limit. number span 1 MOST_TIME >>= (λ span. Ok (record no_rules { k = k; n = n; limit = limit; span = span }))))) r e in
+    let b = bind_ok (number n N_LEAST VERSION_1_N_MOST) (λ n. number limit 1 (2 ^ n) >>= (λ limit. number span 1 MOST_TIME >>= (λ span. Ok (record no_rules { k = a.x; n = n; limit = limit; span = span })))) r a.then in
+    let c = bind_ok (number limit 1 (2 ^ b.x)) (λ limit. number span 1 MOST_TIME >>= (λ span. Ok (record no_rules { k = a.x; n = b.x; limit = limit; span = span }))) r b.then in
+    let d = bind_ok (number span 1 MOST_TIME) (λ span. Ok (record no_rules { k = a.x; n = b.x; limit = c.x; span = span })) r c.then in
+    let ns = number_ok n N_LEAST VERSION_1_N_MOST b.x (lit< tt) b.first in
+    let q : record no_rules { k = a.x; n = b.x; limit = c.x; span = d.x } ≡ r = ok_same _ _ d.then in
+    along k n limit span _ r q (record { k_is = number_ok k 1 K_MOST a.x (lit< tt) a.first; n_is = ns; limit_is = number_ok limit 1 (2 ^ b.x) c.x (small b.x ns.high) c.first; span_is = number_ok span 1 MOST_TIME d.x (lit< tt) d.first })
 
 with_times : Rules → (keep age width base : ℕ) → Rules
 with_times rules keep age width base = record rules { keep = keep; age = age; width = width; base = base }
 
-spelled_shape : (k n limit span keep age width base : List ℕ) (r : Rules) → Fronts k n limit span r → IsNumber keep 1 32 r.keep → IsNumber age 1 most_time r.age → IsNumber width 0 most_time r.width → IsBase base r.base → Spells (said.Shape r) (codes "shape" ∷ k ∷ n ∷ limit ∷ span ∷ keep ∷ age ∷ width ∷ base ∷ [])
+spelled_shape : (k n limit span keep age width base : List ℕ) (r : Rules) → Fronts k n limit span r → IsNumber keep 1 32 r.keep → IsNumber age 1 MOST_TIME r.age → IsNumber width 0 MOST_TIME r.width → IsBase base r.base → Spells (said.Shape r) (codes "shape" ∷ k ∷ n ∷ limit ∷ span ∷ keep ∷ age ∷ width ∷ base ∷ [])
 spelled_shape k n limit span keep age width base r f p q w b = (
   base,
   ap (λ z. codes "shape" ∷ z ∷ n ∷ limit ∷ span ∷ keep ∷ age ∷ width ∷ base ∷ []) f.k_is.is
@@ -204,8 +195,8 @@ spelled_shape k n limit span keep age width base r f p q w b = (
 -- the back of a shape line
 pub record Backs (rules : Rules) (keep age width base : List ℕ) (r : Rules) : Type 0 where
   pub keep_is : IsNumber keep 1 32 r.keep
-  pub age_is : IsNumber age 1 most_time r.age
-  pub width_is : IsNumber width 0 most_time r.width
+  pub age_is : IsNumber age 1 MOST_TIME r.age
+  pub width_is : IsNumber width 0 MOST_TIME r.width
   pub base_is : IsBase base r.base
   pub front : (r.k ≡ rules.k) × (r.n ≡ rules.n) × (r.limit ≡ rules.limit) × (r.span ≡ rules.span)
 
@@ -215,19 +206,19 @@ backs_along rules keep age width base r s e f = let P : Rules → Type 0 = λ v.
 times_ok : (rules : Rules) (keep age width base : List ℕ) (r : Rules) → times_in rules keep age width base ≡ Ok r → Backs rules keep age width base r
 unfolding times_in
 times_ok rules keep age width base r e =
-    let a = bind_two (number keep 1 32) (λ keep. number age 1 most_time >>= (λ age. number width 0 most_time >>= (λ width. base_of base >>= (λ base. Ok (record rules { keep = keep; age = age; width = width; base = base }))))) r e in
-    let b = bind_two (number age 1 most_time) (λ age. number width 0 most_time >>= (λ width. base_of base >>= (λ base. Ok (record rules { keep = a.0; age = age; width = width; base = base })))) r a.2 in
-    let c = bind_two (number width 0 most_time) (λ width. base_of base >>= (λ base. Ok (record rules { keep = a.0; age = b.0; width = width; base = base }))) r b.2 in
-    let d = bind_two (base_of base) (λ base. Ok (record rules { keep = a.0; age = b.0; width = c.0; base = base })) r c.2 in
-    let q : record rules { keep = a.0; age = b.0; width = c.0; base = d.0 } ≡ r = ok_same _ _ d.2 in
-    backs_along rules keep age width base _ r q (record { keep_is = number_ok keep 1 32 a.0 (lit< tt) a.1; age_is = number_ok age 1 most_time b.0 (lit< tt) b.1; width_is = number_ok width 0 most_time c.0 (lit< tt) c.1; base_is = base_ok base d.0 d.1; front = (refl, refl, refl, refl) })
+    let a = bind_ok (number keep 1 32) (λ keep. number age 1 MOST_TIME >>= (λ age. number width 0 MOST_TIME >>= (λ width. base_of base >>= (λ base. Ok (record rules { keep = keep; age = age; width = width; base = base }))))) r e in
+    let b = bind_ok (number age 1 MOST_TIME) (λ age. number width 0 MOST_TIME >>= (λ width. base_of base >>= (λ base. Ok (record rules { keep = a.x; age = age; width = width; base = base })))) r a.then in
+    let c = bind_ok (number width 0 MOST_TIME) (λ width. base_of base >>= (λ base. Ok (record rules { keep = a.x; age = b.x; width = width; base = base }))) r b.then in
+    let d = bind_ok (base_of base) (λ base. Ok (record rules { keep = a.x; age = b.x; width = c.x; base = base })) r c.then in
+    let q : record rules { keep = a.x; age = b.x; width = c.x; base = d.x } ≡ r = ok_same _ _ d.then in
+    backs_along rules keep age width base _ r q (record { keep_is = number_ok keep 1 32 a.x (lit< tt) a.first; age_is = number_ok age 1 MOST_TIME b.x (lit< tt) b.first; width_is = number_ok width 0 MOST_TIME c.x (lit< tt) c.first; base_is = base_ok base d.x d.first; front = (refl, refl, refl, refl) })
 
 fronts_on : (k n limit span : List ℕ) (s r : Rules) → Fronts k n limit span s → r.k ≡ s.k → r.n ≡ s.n → r.limit ≡ s.limit → r.span ≡ s.span → Fronts k n limit span r
 fronts_on k n limit span s r f ek en el es = record {
-  k_is = (let P : ℕ → Type 0 = λ z. IsNumber k 1 8 z in subst P (sym ek) f.k_is);
-  n_is = (let P : ℕ → Type 0 = λ z. IsNumber n 6 16 z in subst P (sym en) f.n_is);
+  k_is = (let P : ℕ → Type 0 = λ z. IsNumber k 1 K_MOST z in subst P (sym ek) f.k_is);
+  n_is = (let P : ℕ → Type 0 = λ z. IsNumber n N_LEAST VERSION_1_N_MOST z in subst P (sym en) f.n_is);
   limit_is = (let P : ℕ → Type 0 = λ z. IsNumber limit 1 (2 ^ z) r.limit in subst P (sym en) (let Q : ℕ → Type 0 = λ z. IsNumber limit 1 (2 ^ s.n) z in subst Q (sym el) f.limit_is));
-  span_is = (let P : ℕ → Type 0 = λ z. IsNumber span 1 most_time z in subst P (sym es) f.span_is);
+  span_is = (let P : ℕ → Type 0 = λ z. IsNumber span 1 MOST_TIME z in subst P (sym es) f.span_is);
 }
 
 no_rules_here : (w : WhyRefused) (r : Rules) (fs : List (List ℕ)) → Err w ≡ Ok r → Spells (said.Shape r) fs
@@ -252,14 +243,8 @@ shape_ok (k ∷ n ∷ []) r e = no_rules_here _ r _ e
 shape_ok (k ∷ n ∷ limit ∷ []) r e = no_rules_here _ r _ e
 shape_ok (k ∷ n ∷ limit ∷ span ∷ back) r e =
     let t = taken (length back == 4) why.Fields (front_in k n limit span >>= (λ rules. back_in rules back)) r e in
-    let b = bind_two (front_in k n limit span) (λ rules. back_in rules back) r t.1 in
-    back_ok k n limit span b.0 back r (front_ok k n limit span b.0 b.1) b.2
-
-abbrev ErrIn : (A : Type 0) → WhyRefused → WhyRefused → Type 0
-ErrIn A x y = let r : Result A WhyRefused = Err x in r ≡ Err y
-
-err_is : (A : Type 0) (x y : WhyRefused) → ErrIn A x y → y ≡ x
-err_is A x y e = let q : x ≡ y = cc in sym q
+    let b = bind_ok (front_in k n limit span) (λ rules. back_in rules back) r t.1 in
+    back_ok k n limit span b.x back r (front_ok k n limit span b.x b.first) b.then
 
 name_err_by : (b : Bool) (y : WhyRefused) → cond b (Ok (tt {0})) (Err why.Field) ≡ Err y → y ≡ why.Field
 name_err_by true y e = absurd (cc)
@@ -281,13 +266,13 @@ pub number_err : (field : List ℕ) (least most : ℕ) (y : WhyRefused) → numb
 unfolding number
 number_err field least most y e = number_err_by _ least y e
 
-kind_step : (b : Bool) (k : Kind) (rest : Result Kind WhyRefused) (y : WhyRefused) → (rest ≡ Err y → y ≡ why.Field) → cond b (Ok k) rest ≡ Err y → y ≡ why.Field
-kind_step true k rest y more e = absurd (cc)
-kind_step false k rest y more e = more e
+next_kind : (b : Bool) (k : Kind) (rest : Result Kind WhyRefused) (y : WhyRefused) → (rest ≡ Err y → y ≡ why.Field) → cond b (Ok k) rest ≡ Err y → y ≡ why.Field
+next_kind true k rest y more e = absurd (cc)
+next_kind false k rest y more e = more e
 
 pub kind_err : (field : List ℕ) (y : WhyRefused) → kind_in field ≡ Err y → y ≡ why.Field
 unfolding kind_in
-kind_err field y e = kind_step (bytes_eq field (codes "frag")) kind.Frag _ y (kind_step (bytes_eq field (codes "nat")) kind.Nat _ y (kind_step (bytes_eq field (codes "icmp")) kind.Icmp _ y (kind_step (bytes_eq field (codes "ipip")) kind.Ipip _ y (kind_step (bytes_eq field (codes "decap")) kind.Decap _ y (err_is Kind why.Field y))))) e
+kind_err field y e = next_kind (bytes_eq field (codes "frag")) kind.Frag _ y (next_kind (bytes_eq field (codes "nat")) kind.Nat _ y (next_kind (bytes_eq field (codes "icmp")) kind.Icmp _ y (next_kind (bytes_eq field (codes "ipip")) kind.Ipip _ y (next_kind (bytes_eq field (codes "decap")) kind.Decap _ y (err_is Kind why.Field y))))) e
 
 bytes_err_by : (b : Bool) (r : Result (List ℕ) FromHexError) (y : WhyRefused) → cond b (bytes_by r) (Err why.Field) ≡ Err y → y ≡ why.Field
 bytes_err_by true (Ok x) y e = absurd (cc)
@@ -319,15 +304,15 @@ err_two {A = A} {B = B} (Err w) f y p q e = let z : w ≡ y = cc in p (rw z refl
 pub front_err : (k n limit span : List ℕ) (y : WhyRefused) → front_in k n limit span ≡ Err y → y ≡ why.Field
 unfolding front_in
 front_err k n limit span y e =
-    err_two (number k 1 8) (λ k. number n 6 16 >>= (λ n. number limit 1 (2 ^ n) >>= (λ limit. number span 1 most_time >>= (λ span. Ok (record no_rules { k = k; n = n; limit = limit; span = span }))))) y (number_err k 1 8 y) (λ a.
-    err_two (number n 6 16) (λ n. number limit 1 (2 ^ n) >>= (λ limit. number span 1 most_time >>= (λ span. Ok (record no_rules { k = a; n = n; limit = limit; span = span })))) y (number_err n 6 16 y) (λ b.
-    err_two (number limit 1 (2 ^ b)) (λ limit. number span 1 most_time >>= (λ span. Ok (record no_rules { k = a; n = b; limit = limit; span = span }))) y (number_err limit 1 (2 ^ b) y) (λ c.
-    err_two (number span 1 most_time) (λ span. Ok (record no_rules { k = a; n = b; limit = c; span = span })) y (number_err span 1 most_time y) (λ d z. no_err _ y z)))) e
+    err_two (number k 1 K_MOST) (λ k. number n N_LEAST VERSION_1_N_MOST >>= (λ n. number limit 1 (2 ^ n) >>= (λ limit. number span 1 MOST_TIME >>= (λ span. Ok (record no_rules { k = k; n = n; limit = limit; span = span }))))) y (number_err k 1 K_MOST y) (λ a.
+    err_two (number n N_LEAST VERSION_1_N_MOST) (λ n. number limit 1 (2 ^ n) >>= (λ limit. number span 1 MOST_TIME >>= (λ span. Ok (record no_rules { k = a; n = n; limit = limit; span = span })))) y (number_err n N_LEAST VERSION_1_N_MOST y) (λ b.
+    err_two (number limit 1 (2 ^ b)) (λ limit. number span 1 MOST_TIME >>= (λ span. Ok (record no_rules { k = a; n = b; limit = limit; span = span }))) y (number_err limit 1 (2 ^ b) y) (λ c.
+    err_two (number span 1 MOST_TIME) (λ span. Ok (record no_rules { k = a; n = b; limit = c; span = span })) y (number_err span 1 MOST_TIME y) (λ d z. no_err _ y z)))) e
 
 pub times_err : (rules : Rules) (keep age width base : List ℕ) (y : WhyRefused) → times_in rules keep age width base ≡ Err y → y ≡ why.Field
 unfolding times_in
 times_err rules keep age width base y e =
-    err_two (number keep 1 32) (λ keep. number age 1 most_time >>= (λ age. number width 0 most_time >>= (λ width. base_of base >>= (λ base. Ok (record rules { keep = keep; age = age; width = width; base = base }))))) y (number_err keep 1 32 y) (λ a.
-    err_two (number age 1 most_time) (λ age. number width 0 most_time >>= (λ width. base_of base >>= (λ base. Ok (record rules { keep = a; age = age; width = width; base = base })))) y (number_err age 1 most_time y) (λ b.
-    err_two (number width 0 most_time) (λ width. base_of base >>= (λ base. Ok (record rules { keep = a; age = b; width = width; base = base }))) y (number_err width 0 most_time y) (λ c.
+    err_two (number keep 1 32) (λ keep. number age 1 MOST_TIME >>= (λ age. number width 0 MOST_TIME >>= (λ width. base_of base >>= (λ base. Ok (record rules { keep = keep; age = age; width = width; base = base }))))) y (number_err keep 1 32 y) (λ a.
+    err_two (number age 1 MOST_TIME) (λ age. number width 0 MOST_TIME >>= (λ width. base_of base >>= (λ base. Ok (record rules { keep = a; age = age; width = width; base = base })))) y (number_err age 1 MOST_TIME y) (λ b.
+    err_two (number width 0 MOST_TIME) (λ width. base_of base >>= (λ base. Ok (record rules { keep = a; age = b; width = width; base = base }))) y (number_err width 0 MOST_TIME y) (λ c.
     err_two (base_of base) (λ base. Ok (record rules { keep = a; age = b; width = c; base = base })) y (base_err base y) (λ d z. no_err _ y z)))) e

@@ -1,27 +1,27 @@
 -- A text with a fault is refused with it.
-use Rattle.std.proofs.Common.{ℕ, ◌≡◌, ◌≢◌, ◌≤◌, ◌<◌, inl, inr, List, [], ◌∷◌, length, refl, ap, arith, sym, ◌∙◌, subst, Result, Ok, Err, Bool, true, false, cond, ◌==◌, nat_lt}
-use Rattle.std.proofs.lemmas.Bool.Decides.{nat_tests}
+use Rattle.std.proofs.Common.{ℕ, ◌≡◌, ◌≢◌, ◌≤◌, ◌<◌, inl, inr, List, [], ◌∷◌, length, refl, ap, sym, ◌∙◌, subst, Result, Ok, Err, Bool, true, false, cond, ◌==◌}
 use Rattle.std.specs.declared.option.Option.{Option}
 use Rattle.std.specs.declared.option.Option.TheVariants.{None, Some}
+use Rattle.spie_base.proofs.Bounds.{past, within, some_items}
 use Rattle.trace_format.specs.declared.refused.TraceRefused.{TraceRefused}
 use Rattle.trace_format.specs.declared.refused.WhyRefused.{WhyRefused}
 use Rattle.trace_format.specs.declared.refused.WhyRefused.TheVariants as why
 use Rattle.trace_format.specs.declared.words.Word.{Word}
 use Rattle.trace_format.specs.Before.{Known, known_of}
 use Rattle.trace_format.specs.Fault.{HasWord, HasNoWord, IsBad, IsRefused, LastBreaks, LineBreaks, RestBreaks, IsFault}
-use Rattle.trace_format.specs.Reading.{read_line, read_lines, line_by, by_fields, by_word, refused, then_read, known_in, word_of, step, judged, read_of}
+use Rattle.trace_format.specs.Reading.{read_line, read_lines, line_by, by_fields, by_word, refused, then_read, known_in, word_of, accept, judged, read_of}
 use Rattle.trace_format.specs.Spelling.{Spells}
 use Rattle.trace_format.specs.Table.{first_broken}
 use Rattle.trace_format.specs.Text.{lines, fields}
 use Rattle.trace_format.specs.Trace.{Begins}
-use Rattle.trace_format.specs.Words.{stage_of, word_said, is_over, may_stand, word_text, arity}
+use Rattle.trace_format.specs.Words.{stage_of, word_said, is_over, may_come, word_text, arity}
 use Rattle.trace_format.specs.Said.{Said}
 use Rattle.trace_format.specs.Said as said
 use Rattle.trace_format.proofs.FieldForms.{word_ok, word_again}
-use Rattle.trace_format.proofs.Taken.{line_stepped}
+use Rattle.trace_format.proofs.Taken.{line_accepted}
 use Rattle.trace_format.proofs.Refusals.{line_err, Trouble}
 use Rattle.trace_format.proofs.Again.{spelled_reads}
-use Rattle.trace_format.specs.Limits.{most_bytes, most_line_bytes}
+use Rattle.trace_format.specs.declared.limits.TheConstants.{MOST_BYTES, MOST_LINE_BYTES}
 use Rattle.trace_format.proofs.Complete.{complete}
 
 spelled_count : (s : Said) (parts : List (List ℕ)) → Spells s parts → length parts ≡ arity (word_said s)
@@ -48,8 +48,8 @@ at_parts known parts st s sp =
     let Q : List (List ℕ) → Type 0 = λ z. Spells s z in
     subst Q (sym st.are) sp
 
-stands_reads : (known : Known) (parts : List (List ℕ)) (st : HasWord known.stage parts) → by_fields known parts ≡ line_by known st.w st.more
-stands_reads known parts st = rw (st.are, word_again st.w, st.comes) refl
+begun_reads : (known : Known) (parts : List (List ℕ)) (st : HasWord known.stage parts) → by_fields known parts ≡ line_by known st.w st.more
+begun_reads known parts st = rw (st.are, word_again st.w, st.comes) refl
 
 abbrev ErrK : WhyRefused → Result Known WhyRefused
 ErrK y = Err y
@@ -60,7 +60,7 @@ fields_by known parts st y n (inr (inl p)) = absurd (n (sym (counted known parts
 fields_by known parts st y n (inr (inr j)) = absurd (n (spelled_count j.said parts (at_parts known parts st j.said j.spelled) ∙ ap arity j.word))
 
 mis_by : (known : Known) (parts : List (List ℕ)) (st : HasWord known.stage parts) → (length parts ≢ arity st.w) → (r : Result Known WhyRefused) → line_by known st.w st.more ≡ r → r ≡ Err why.Fields
-mis_by known parts st n (Ok new) e = let s = line_stepped known new st.w st.more e in absurd (n (spelled_count s.said parts (at_parts known parts st s.said s.spelled) ∙ ap arity s.word))
+mis_by known parts st n (Ok new) e = let s = line_accepted known new st.w st.more e in absurd (n (spelled_count s.said parts (at_parts known parts st s.said s.spelled) ∙ ap arity s.word))
 mis_by known parts st n (Err y) e = fields_by known parts st y n (line_err known st.w st.more y e)
 
 field_by : (known : Known) (parts : List (List ℕ)) (st : HasWord known.stage parts) (y : WhyRefused) → length parts ≡ arity st.w → ((s : Said) → Spells s parts → ⊥) → Trouble known st.w st.more y → ErrK y ≡ Err why.Field
@@ -69,10 +69,10 @@ field_by known parts st y c none (inr (inl p)) = ap (λ v. ErrK v) p.0
 field_by known parts st y c none (inr (inr j)) = absurd (none j.said (at_parts known parts st j.said j.spelled))
 
 form_by : (known : Known) (parts : List (List ℕ)) (st : HasWord known.stage parts) → length parts ≡ arity st.w → ((s : Said) → Spells s parts → ⊥) → (r : Result Known WhyRefused) → line_by known st.w st.more ≡ r → r ≡ Err why.Field
-form_by known parts st c none (Ok new) e = let s = line_stepped known new st.w st.more e in absurd (none s.said (at_parts known parts st s.said s.spelled))
+form_by known parts st c none (Ok new) e = let s = line_accepted known new st.w st.more e in absurd (none s.said (at_parts known parts st s.said s.spelled))
 form_by known parts st c none (Err y) e = field_by known parts st y c none (line_err known st.w st.more y e)
 
-no_word_at : (known : Known) (f : List ℕ) (w : Word) (rest : List (List ℕ)) (b : Bool) → word_of f ≡ Some w → may_stand known.stage w ≡ b → HasNoWord known.stage (f ∷ rest) → cond b (line_by known w rest) (Err why.Word) ≡ Err why.Word
+no_word_at : (known : Known) (f : List ℕ) (w : Word) (rest : List (List ℕ)) (b : Bool) → word_of f ≡ Some w → may_come known.stage w ≡ b → HasNoWord known.stage (f ∷ rest) → cond b (line_by known w rest) (Err why.Word) ≡ Err why.Word
 no_word_at known f w rest true is m h = absurd (h (record { w = w; more = rest; are = ap (λ z. z ∷ rest) (word_ok f w is); comes = m }))
 no_word_at known f w rest false is m h = refl
 
@@ -84,26 +84,20 @@ no_word : (known : Known) (parts : List (List ℕ)) → HasNoWord known.stage pa
 no_word known [] h = refl
 no_word known (f ∷ rest) h = no_word_by known f _ rest refl h
 
-short_is : (n : ℕ) → n ≤ most_line_bytes → nat_lt most_line_bytes n ≡ false
-short_is n h = grind (arith, nat_tests)
-
-long_is : (n : ℕ) → most_line_bytes < n → nat_lt most_line_bytes n ≡ true
-long_is n h = grind (arith, nat_tests)
-
-by_short : (known : Known) (text : List ℕ) (y : WhyRefused) → length text ≤ most_line_bytes → by_fields known (fields text) ≡ Err y → read_line known text ≡ Err y
+by_short : (known : Known) (text : List ℕ) (y : WhyRefused) → length text ≤ MOST_LINE_BYTES → by_fields known (fields text) ≡ Err y → read_line known text ≡ Err y
 unfolding read_line
-by_short known text y h e = rw (short_is (length text) h) e
+by_short known text y h e = rw (within MOST_LINE_BYTES (length text) h) e
 
-too_wide : (known : Known) (text : List ℕ) → most_line_bytes < length text → read_line known text ≡ Err why.Length
+too_wide : (known : Known) (text : List ℕ) → MOST_LINE_BYTES < length text → read_line known text ≡ Err why.Length
 unfolding read_line
-too_wide known text h = rw (long_is (length text) h) refl
+too_wide known text h = rw (past MOST_LINE_BYTES (length text) h) refl
 
-step_refuses : (known : Known) (s : Said) (y : WhyRefused) → first_broken known s ≡ Some y → step known s ≡ Err y
-unfolding step judged
-step_refuses known s y e = rw e refl
+accept_refuses : (known : Known) (s : Said) (y : WhyRefused) → first_broken known s ≡ Some y → accept known s ≡ Err y
+unfolding accept judged
+accept_refuses known s y e = rw e refl
 
-refused_sole : (before : List Said) (text : List ℕ) (y : WhyRefused) → (length text ≤ most_line_bytes) × IsRefused before (fields text) y → read_line (known_of before) text ≡ Err y
-refused_sole before text y r = by_short (known_of before) text y r.0 (spelled_reads (known_of before) r.1.said (fields text) r.1.spelled ∙ (rw r.1.comes (step_refuses (known_of before) r.1.said y r.1.first)))
+refused_sole : (before : List Said) (text : List ℕ) (y : WhyRefused) → (length text ≤ MOST_LINE_BYTES) × IsRefused before (fields text) y → read_line (known_of before) text ≡ Err y
+refused_sole before text y r = by_short (known_of before) text y r.0 (spelled_reads (known_of before) r.1.said (fields text) r.1.spelled ∙ (rw r.1.comes (accept_refuses (known_of before) r.1.said y r.1.first)))
 
 line_sole : (before : List Said) (text : List ℕ) (y : WhyRefused) → IsBad before text y → read_line (known_of before) text ≡ Err y
 line_sole before text why.TooLong r = refused_sole before text why.TooLong r
@@ -111,8 +105,8 @@ line_sole before text why.After r = refused_sole before text why.After r
 line_sole before text why.Ending r = refused_sole before text why.Ending r
 line_sole before text why.Length r = too_wide (known_of before) text r
 line_sole before text why.Word r = by_short (known_of before) text why.Word r.0 (no_word (known_of before) (fields text) r.1)
-line_sole before text why.Fields r = by_short (known_of before) text why.Fields r.0 (stands_reads (known_of before) (fields text) r.1.stands ∙ mis_by (known_of before) (fields text) r.1.stands r.1.other _ refl)
-line_sole before text why.Field r = by_short (known_of before) text why.Field r.0 (stands_reads (known_of before) (fields text) r.1.stands ∙ form_by (known_of before) (fields text) r.1.stands r.1.count r.1.nothing _ refl)
+line_sole before text why.Fields r = by_short (known_of before) text why.Fields r.0 (begun_reads (known_of before) (fields text) r.1.begun ∙ mis_by (known_of before) (fields text) r.1.begun r.1.other _ refl)
+line_sole before text why.Field r = by_short (known_of before) text why.Field r.0 (begun_reads (known_of before) (fields text) r.1.begun ∙ form_by (known_of before) (fields text) r.1.begun r.1.count r.1.nothing _ refl)
 line_sole before text why.DoubleName r = refused_sole before text why.DoubleName r
 line_sole before text why.NoName r = refused_sole before text why.NoName r
 line_sole before text why.SelfLink r = refused_sole before text why.SelfLink r
@@ -129,15 +123,12 @@ line_sole before text why.Kind r = refused_sole before text why.Kind r
 line_sole before text why.Clock r = refused_sole before text why.Clock r
 line_sole before text why.Twice r = refused_sole before text why.Twice r
 
-some_left : (x : ℕ) (xs : List ℕ) → (length (x ∷ xs) == 0) ≡ false
-some_left x xs = grind (arith, nat_tests)
-
 abbrev ErrAt : List Said → WhyRefused → Result Known TraceRefused
 ErrAt before y = Err (refused (known_of before) y)
 
 last_sole : (before : List Said) (last : List ℕ) (y : WhyRefused) (over : Bool) → LastBreaks over last y → cond over (cond (length last == 0) (Ok (known_of before)) (Err (refused (known_of before) why.After))) (Err (refused (known_of before) why.Ending)) ≡ Err (refused (known_of before) y)
 last_sole before [] y true h = absurd (h.0 refl)
-last_sole before (x ∷ xs) y true h = rw (some_left x xs) (ap (λ v. ErrAt before v) (sym h.1))
+last_sole before (x ∷ xs) y true h = rw (some_items x xs) (ap (λ v. ErrAt before v) (sym h.1))
 last_sole before last y false h = ap (λ v. ErrAt before v) (sym h)
 
 mid_sole : (before : List Said) (text next : List ℕ) (more : List (List ℕ)) (y : WhyRefused) (over : Bool) → LineBreaks over before text y → cond over (Err (refused (known_of before) why.After)) (then_read (known_of before) (read_line (known_of before) text) (λ new. read_lines new (next ∷ more))) ≡ Err (refused (known_of before) y)
@@ -150,16 +141,10 @@ rest_sole parts before [] y b h = absurd h
 rest_sole parts before (last ∷ []) y b h = complete parts before last [] b ∙ last_sole before last y (is_over (stage_of before)) h
 rest_sole parts before (text ∷ next ∷ more) y b h = complete parts before text (next ∷ more) b ∙ mid_sole before text next more y (is_over (stage_of before)) h
 
-in_bounds : (n : ℕ) → n ≤ most_bytes → nat_lt most_bytes n ≡ false
-in_bounds n h = grind (arith, nat_tests)
-
-out_of_bounds : (n : ℕ) → most_bytes < n → nat_lt most_bytes n ≡ true
-out_of_bounds n h = grind (arith, nat_tests)
-
 -- a fault is the one that is read
 pub fault_is_read : (text : List ℕ) (f : TraceRefused) → IsFault text f → read_of text ≡ Err f
 unfolding read_of known_in
-fault_is_read text f (inl p) = rw (out_of_bounds (length text) p.0) (ap (λ v. Err v) (sym p.1))
+fault_is_read text f (inl p) = rw (past MOST_BYTES (length text) p.0) (ap (λ v. Err v) (sym p.1))
 fault_is_read text f (inr h) =
     let r : read_lines (known_of []) (lines text) ≡ Err (refused (known_of h.before) f.why) = rest_sole (lines text) h.before h.rest f.why h.lines_say h.breaks in
-    rw (in_bounds (length text) h.fits, r) (ap (λ l. Err (record { line = l; why = f.why })) (sym h.line_is))
+    rw (within MOST_BYTES (length text) h.fits, r) (ap (λ l. Err (record { line = l; why = f.why })) (sym h.line_is))

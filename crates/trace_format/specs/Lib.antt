@@ -1,8 +1,9 @@
-pub mod Answers
 pub mod Before
 pub mod Fault
+pub mod Laws
 pub mod Limits
 pub mod Outcomes
+pub mod PacketFront
 pub mod Reading
 pub mod Said
 pub mod Sound

@@ -11,18 +11,19 @@ use Rattle.packet_signature.specs.declared.rows.Kind.{Kind}
 use Rattle.packet_signature.specs.declared.rows.Kind.TheVariants as kind
 use Rattle.spie_base.specs.Decimal.{number_in as decimal_in}
 use Rattle.spie_base.specs.declared.types.Rules.{Rules}
-use Rattle.spie_base.specs.declared.types.TheConstants.{N_MOST}
+use Rattle.spie_base.specs.declared.types.TheConstants.{K_MOST, N_LEAST}
 use Rattle.topology.specs.Layout.{with_router, with_link}
 use Rattle.trace_format.specs.Before.{Known, known_of, no_rules, number_of, whats, added}
 use Rattle.trace_format.specs.Fault.{too_long}
-use Rattle.trace_format.specs.Limits.{most_bytes, most_line_bytes, most_digits, most_time, most_number}
+use Rattle.trace_format.specs.Limits.{most_digits}
+use Rattle.trace_format.specs.declared.limits.TheConstants.{VERSION_1_N_MOST, MOST_BYTES, MOST_LINE_BYTES, MOST_TIME, MOST_NUMBER}
 use Rattle.trace_format.specs.Outcomes.{◌>>=◌}
 use Rattle.trace_format.specs.Said.{Said}
 use Rattle.trace_format.specs.Said as said
 use Rattle.trace_format.specs.Table.{first_broken}
 use Rattle.trace_format.specs.Text.{fields, lines, is_name}
 use Rattle.trace_format.specs.Trace.{trace_of}
-use Rattle.trace_format.specs.Words.{word_text, may_stand, is_over}
+use Rattle.trace_format.specs.Words.{word_text, may_come, is_over}
 use Rattle.trace_format.specs.declared.items.Trace.{Trace}
 use Rattle.trace_format.specs.declared.refused.TraceRefused.{TraceRefused}
 use Rattle.trace_format.specs.declared.refused.WhyRefused.{WhyRefused}
@@ -72,17 +73,17 @@ name_in field = if is_name field then Ok tt else Err why.Field
 
 unfoldable pub front_in : (k n limit span : List ℕ) → Result Rules WhyRefused
 front_in k n limit span = do
-  k ← number k 1 8
-  n ← number n 6 N_MOST
+  k ← number k 1 K_MOST
+  n ← number n N_LEAST VERSION_1_N_MOST
   limit ← number limit 1 (2 ^ n)
-  span ← number span 1 most_time
+  span ← number span 1 MOST_TIME
   Ok (record no_rules { k = k; n = n; limit = limit; span = span })
 
 unfoldable pub times_in : Rules → (keep age width base : List ℕ) → Result Rules WhyRefused
 times_in rules keep age width base = do
   keep ← number keep 1 32
-  age ← number age 1 most_time
-  width ← number width 0 most_time
+  age ← number age 1 MOST_TIME
+  width ← number width 0 MOST_TIME
   base ← base_of base
   Ok (record rules { keep = keep; age = age; width = width; base = base })
 
@@ -119,11 +120,11 @@ unfoldable pub judged : Known → Said → Result (Unit {0}) WhyRefused
 judged known said = judged_by (first_broken known said)
 
 -- one more line, if no rule refuses what it says
-unfoldable pub step : Known → Said → Result Known WhyRefused
-step known said = judged known said >>= (λ fits. Ok (grown known said))
+unfoldable pub accept : Known → Said → Result Known WhyRefused
+accept known said = judged known said >>= (λ fits. Ok (grown known said))
 
 unfoldable pub version_fields : Known → List ℕ → Result Known WhyRefused
-version_fields known version = if bytes_eq version (codes "1") then step known said.Version else Err why.Field
+version_fields known version = if bytes_eq version (codes "1") then accept known said.Version else Err why.Field
 
 unfoldable pub version_line : Known → List (List ℕ) → Result Known WhyRefused
 version_line known (version ∷ []) = version_fields known version
@@ -132,13 +133,13 @@ version_line known _ = Err why.Fields
 unfoldable pub shape_line : Known → List (List ℕ) → Result Known WhyRefused
 shape_line known rest = do
   rules ← shape_in rest
-  step known (said.Shape rules)
+  accept known (said.Shape rules)
 
 unfoldable pub router_fields : Known → (name region : List ℕ) → Result Known WhyRefused
 router_fields known name region = do
   fits ← name_in name
   fits ← name_in region
-  step known (said.Router name region)
+  accept known (said.Router name region)
 
 unfoldable pub router_line : Known → List (List ℕ) → Result Known WhyRefused
 router_line known (name ∷ region ∷ []) = router_fields known name region
@@ -148,27 +149,27 @@ unfoldable pub link_fields : Known → (one other : List ℕ) → Result Known W
 link_fields known one other = do
   fits ← name_in one
   fits ← name_in other
-  step known (said.Link one other)
+  accept known (said.Link one other)
 
 unfoldable pub link_line : Known → List (List ℕ) → Result Known WhyRefused
 link_line known (one ∷ other ∷ []) = link_fields known one other
 link_line known _ = Err why.Fields
 
 unfoldable pub begin_line : Known → List (List ℕ) → Result Known WhyRefused
-begin_line known [] = step known said.Begin
+begin_line known [] = accept known said.Begin
 begin_line known _ = Err why.Fields
 
 unfoldable pub packet_line : Known → List (List ℕ) → Result Known WhyRefused
 packet_line known (digits ∷ []) = do
   bytes ← bytes_in digits
-  step known (said.Packet bytes)
+  accept known (said.Packet bytes)
 packet_line known _ = Err why.Fields
 
 unfoldable pub fwd_fields : Known → (name packet : List ℕ) → Result Known WhyRefused
 fwd_fields known name packet = do
   fits ← name_in name
-  packet ← number packet 0 most_number
-  step known (said.Fwd name packet)
+  packet ← number packet 0 MOST_NUMBER
+  accept known (said.Fwd name packet)
 
 unfoldable pub fwd_line : Known → List (List ℕ) → Result Known WhyRefused
 fwd_line known (name ∷ packet ∷ []) = fwd_fields known name packet
@@ -178,9 +179,9 @@ unfoldable pub xf_fields : Known → (name kind old new : List ℕ) → Result K
 xf_fields known name kind old new = do
   fits ← name_in name
   kind ← kind_in kind
-  old ← number old 0 most_number
-  new ← number new 0 most_number
-  step known (said.Xf name kind old new)
+  old ← number old 0 MOST_NUMBER
+  new ← number new 0 MOST_NUMBER
+  accept known (said.Xf name kind old new)
 
 unfoldable pub xf_line : Known → List (List ℕ) → Result Known WhyRefused
 xf_line known (name ∷ kind ∷ old ∷ new ∷ []) = xf_fields known name kind old new
@@ -189,20 +190,20 @@ xf_line known _ = Err why.Fields
 unfoldable pub rotate_line : Known → List (List ℕ) → Result Known WhyRefused
 rotate_line known (name ∷ []) = do
   fits ← name_in name
-  step known (said.Rotate name)
+  accept known (said.Rotate name)
 rotate_line known _ = Err why.Fields
 
 unfoldable pub archive_line : Known → List (List ℕ) → Result Known WhyRefused
 archive_line known (name ∷ []) = do
   fits ← name_in name
-  step known (said.Archive name)
+  accept known (said.Archive name)
 archive_line known _ = Err why.Fields
 
 unfoldable pub watch_fields : Known → (name packet : List ℕ) → Result Known WhyRefused
 watch_fields known name packet = do
   fits ← name_in name
-  packet ← number packet 0 most_number
-  step known (said.Watch name packet)
+  packet ← number packet 0 MOST_NUMBER
+  accept known (said.Watch name packet)
 
 unfoldable pub watch_line : Known → List (List ℕ) → Result Known WhyRefused
 watch_line known (name ∷ packet ∷ []) = watch_fields known name packet
@@ -210,23 +211,23 @@ watch_line known _ = Err why.Fields
 
 unfoldable pub tick_line : Known → List (List ℕ) → Result Known WhyRefused
 tick_line known (time ∷ []) = do
-  time ← number time 0 most_time
-  step known (said.Tick time)
+  time ← number time 0 MOST_TIME
+  accept known (said.Tick time)
 tick_line known _ = Err why.Fields
 
 unfoldable pub query_fields : Known → (name packet time : List ℕ) → Result Known WhyRefused
 query_fields known name packet time = do
   fits ← name_in name
-  packet ← number packet 0 most_number
-  time ← number time 0 most_time
-  step known (said.Query name packet time)
+  packet ← number packet 0 MOST_NUMBER
+  time ← number time 0 MOST_TIME
+  accept known (said.Query name packet time)
 
 unfoldable pub query_line : Known → List (List ℕ) → Result Known WhyRefused
 query_line known (name ∷ packet ∷ time ∷ []) = query_fields known name packet time
 query_line known _ = Err why.Fields
 
 unfoldable pub end_line : Known → List (List ℕ) → Result Known WhyRefused
-end_line known [] = step known said.End
+end_line known [] = accept known said.End
 end_line known _ = Err why.Fields
 
 -- the word that a field is
@@ -266,7 +267,7 @@ line_by known word.End rest = end_line known rest
 
 abbrev pub by_word : Known → Option Word → List (List ℕ) → Result Known WhyRefused
 by_word known None rest = Err why.Word
-by_word known (Some w) rest = if may_stand known.stage w then line_by known w rest else Err why.Word
+by_word known (Some w) rest = if may_come known.stage w then line_by known w rest else Err why.Word
 
 abbrev pub by_fields : Known → List (List ℕ) → Result Known WhyRefused
 by_fields known [] = Err why.Word
@@ -274,7 +275,7 @@ by_fields known (w ∷ rest) = by_word known (word_of w) rest
 
 -- what is known with one more line, or the rule that the line breaks
 unfoldable pub read_line : Known → List ℕ → Result Known WhyRefused
-read_line known text = if nat_lt most_line_bytes (length text) then Err why.Length else by_fields known (fields text)
+read_line known text = if nat_lt MOST_LINE_BYTES (length text) then Err why.Length else by_fields known (fields text)
 
 abbrev pub refused : Known → WhyRefused → TraceRefused
 refused known why = record { line = known.read + 1; why = why }
@@ -291,7 +292,7 @@ read_lines known (text ∷ next ∷ more) = if is_over known.stage then Err (ref
 
 -- the whole text
 unfoldable pub known_in : List ℕ → Result Known TraceRefused
-known_in text = if nat_lt most_bytes (length text) then Err too_long else read_lines (known_of []) (lines text)
+known_in text = if nat_lt MOST_BYTES (length text) then Err too_long else read_lines (known_of []) (lines text)
 
 abbrev pub trace_by : Result Known TraceRefused → Result Trace TraceRefused
 trace_by (Ok known) = Ok (trace_of known)

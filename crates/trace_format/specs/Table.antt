@@ -11,8 +11,9 @@ use Rattle.packet_signature.specs.declared.rows.Kind.TheVariants as kind
 use Rattle.spie_base.specs.declared.types.Sig.{Sig}
 use Rattle.topology.specs.Layout.{has_name, is_linked}
 use Rattle.topology.specs.Refusals.{is_full}
+use Rattle.topology.specs.declared.limits.TheConstants.{LINKS_MOST}
 use Rattle.trace_format.specs.Before.{Known, number_of}
-use Rattle.trace_format.specs.Limits.{most_links, most_packets, most_records, most_rotates, most_ticks, most_queries}
+use Rattle.trace_format.specs.declared.limits.TheConstants.{MOST_PACKETS, MOST_RECORDS, MOST_ROTATES, MOST_TICKS, MOST_QUERIES}
 use Rattle.trace_format.specs.Said.{Said}
 use Rattle.trace_format.specs.Said as said
 use Rattle.trace_format.specs.declared.refused.WhyRefused.{WhyRefused}
@@ -34,13 +35,13 @@ names_unknown known _ = false
 -- one line more would be over a limit
 abbrev pub is_over_limit : Known → Said → Bool
 is_over_limit known (said.Router name region) = is_full known.layout region
-is_over_limit known (said.Link one other) = nat_le most_links (length known.layout.links)
-is_over_limit known (said.Packet bytes) = nat_le most_packets (length known.sigs)
-is_over_limit known (said.Fwd name packet) = nat_le most_records known.records
-is_over_limit known (said.Xf name kind old new) = nat_le most_records known.records
-is_over_limit known (said.Rotate name) = nat_le most_rotates known.rotates
-is_over_limit known (said.Tick time) = nat_le most_ticks known.ticks
-is_over_limit known (said.Query name packet time) = nat_le most_queries known.queries
+is_over_limit known (said.Link one other) = nat_le LINKS_MOST (length known.layout.links)
+is_over_limit known (said.Packet bytes) = nat_le MOST_PACKETS (length known.sigs)
+is_over_limit known (said.Fwd name packet) = nat_le MOST_RECORDS known.records
+is_over_limit known (said.Xf name kind old new) = nat_le MOST_RECORDS known.records
+is_over_limit known (said.Rotate name) = nat_le MOST_ROTATES known.rotates
+is_over_limit known (said.Tick time) = nat_le MOST_TICKS known.ticks
+is_over_limit known (said.Query name packet time) = nat_le MOST_QUERIES known.queries
 is_over_limit known _ = false
 
 -- the first rule that the packet's header breaks

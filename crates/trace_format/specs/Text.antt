@@ -1,5 +1,5 @@
 -- Lines and fields of a text.
-use Rattle.std.specs.Prelude.{ℕ, ◌≡◌, ◌<◌, List, ◌∷◌, length, Bool, ◌&&◌, ◌||◌, ◌==◌, nat_le, slice_index}
+use Rattle.std.specs.Prelude.{ℕ, ◌≡◌, ◌<◌, List, [], ◌∷◌, length, Bool, ◌&&◌, ◌||◌, ◌==◌, nat_le, slice_index}
 use Rattle.std.specs.List.{slice_split, list_all}
 use Rattle.std.specs.Char.{is_ascii_lowercase, is_ascii_digit}
 
@@ -22,3 +22,7 @@ is_name field = nat_le 1 (length field) && nat_le (length field) 16 && is_ascii_
 pub record HasCut (byte : ℕ) (text front after : List ℕ) : Type 0 where
   pub cut : slice_split (λ b. b == byte) text ≡ front ∷ slice_split (λ b. b == byte) after
   pub shorter : length after < length text
+
+-- a text without such a byte is not cut
+abbrev pub IsUncut : (byte : ℕ) → List ℕ → Type 0
+IsUncut byte text = slice_split (λ b. b == byte) text ≡ text ∷ []

@@ -2,18 +2,18 @@
 use Rattle.std.specs.Prelude.{ℕ, ◌≤◌, ◌≡◌, List, [], ◌∷◌, length, true}
 use Rattle.std.specs.declared.option.Option.TheVariants.{None}
 use Rattle.trace_format.specs.Before.{Known, known_of}
-use Rattle.trace_format.specs.Limits.{most_bytes, most_line_bytes}
+use Rattle.trace_format.specs.declared.limits.TheConstants.{MOST_BYTES, MOST_LINE_BYTES}
 use Rattle.trace_format.specs.Said.{Said}
 use Rattle.trace_format.specs.Spelling.{Spells}
 use Rattle.trace_format.specs.Table.{first_broken}
 use Rattle.trace_format.specs.Text.{fields, lines}
-use Rattle.trace_format.specs.Words.{stage_of, word_said, may_stand, is_over}
+use Rattle.trace_format.specs.Words.{stage_of, word_said, may_come, is_over}
 use Rattle.trace_format.specs.declared.items.Trace.{Trace}
 
 -- a line that says this, and may stand behind the lines before
 pub record IsLine (before : List Said) (line : List ℕ) (said : Said) : Type 0 where
-  pub short : length line ≤ most_line_bytes
-  pub comes : may_stand (stage_of before) (word_said said) ≡ true
+  pub short : length line ≤ MOST_LINE_BYTES
+  pub comes : may_come (stage_of before) (word_said said) ≡ true
   pub spelled : Spells said (fields line)
   pub fits : first_broken (known_of before) said ≡ None
 
@@ -27,7 +27,7 @@ trace_of known = record { rules = known.rules; topology = known.layout; sigs = k
 
 -- the text is the trace's lines, of which the last is `end`, and nothing stands behind it
 pub record IsTrace (text : List ℕ) (trace : Trace) : Type 0 where
-  pub fits : length text ≤ most_bytes
+  pub fits : length text ≤ MOST_BYTES
   pub said : List Said
   pub lines_say : Begins (lines text) said ([] ∷ [])
   pub ended : is_over (stage_of said) ≡ true

@@ -68,22 +68,22 @@ stage_of (said.End ∷ before) = stage.Over
 stage_of (_ ∷ before) = stage.Body
 
 -- the words that may stand at each stage
-abbrev pub may_stand : Stage → Word → Bool
-may_stand stage.Version word.Trace = true
-may_stand stage.Shape word.Shape = true
-may_stand stage.Declarations word.Router = true
-may_stand stage.Declarations word.Link = true
-may_stand stage.Declarations word.Begin = true
-may_stand stage.Body word.Packet = true
-may_stand stage.Body word.Fwd = true
-may_stand stage.Body word.Xf = true
-may_stand stage.Body word.Rotate = true
-may_stand stage.Body word.Archive = true
-may_stand stage.Body word.Watch = true
-may_stand stage.Body word.Tick = true
-may_stand stage.Body word.Query = true
-may_stand stage.Body word.End = true
-may_stand _ _ = false
+abbrev pub may_come : Stage → Word → Bool
+may_come stage.Version word.Trace = true
+may_come stage.Shape word.Shape = true
+may_come stage.Declarations word.Router = true
+may_come stage.Declarations word.Link = true
+may_come stage.Declarations word.Begin = true
+may_come stage.Body word.Packet = true
+may_come stage.Body word.Fwd = true
+may_come stage.Body word.Xf = true
+may_come stage.Body word.Rotate = true
+may_come stage.Body word.Archive = true
+may_come stage.Body word.Watch = true
+may_come stage.Body word.Tick = true
+may_come stage.Body word.Query = true
+may_come stage.Body word.End = true
+may_come _ _ = false
 
 -- whether the end line was read
 abbrev pub is_over : Stage → Bool

@@ -1,13 +1,12 @@
 // The forms of single fields.
-ghost use Rattle.std.specs.Prelude.{◌≡◌, ◌≤◌, IfOk, MatchResult, map, take};
-ghost use Rattle.trace_format.specs.Limits.{most_number};
-ghost use Rattle.trace_format.specs.Reading.{number, base_of, kind_in, name_in, bytes_in, front_in, times_in, back_in, shape_in};
+ghost use Rattle.std.specs.Prelude.{◌≡◌, ◌≤◌, IfOk, map};
+ghost use Rattle.trace_format.specs.Reading.{number, base_of, kind_in, name_in, front_in, times_in, back_in, shape_in};
 
-use crate::limits::{MOST_NUMBER, MOST_PACKET_BYTES, MOST_TIME};
+use crate::limits::{MOST_NUMBER, MOST_TIME, VERSION_1_N_MOST};
 use crate::refused::WhyRefused;
 use crate::text::is_name;
 use packet_signature::Kind;
-use spie_base::{N_MOST, Rules, decimal};
+use spie_base::{K_MOST, N_LEAST, Rules, decimal};
 
 /// A decimal number without needless zeros, from `least` to `most`; else the rule on fields.
 #[tactic(auto, unfolding(crate::specs::Reading::number))]
@@ -22,8 +21,8 @@ pub fn number(field: &[u8], least: u64, most: u64) -> Result<u64, WhyRefused>
 }
 
 pub fn packet_number(field: &[u8]) -> Result<u32, WhyRefused>
-    ensures value { result ≡ number field.now 0 most_number }
-    ensures within { IfOk result (λ n. n ≤ most_number) }
+    ensures value { result ≡ number field.now 0 MOST_NUMBER }
+    ensures within { IfOk result (λ n. n ≤ MOST_NUMBER) }
 {
     Ok(number(field, 0, MOST_NUMBER)? as u32)
 }
@@ -74,8 +73,8 @@ pub fn name_in(field: &[u8]) -> Result<(), WhyRefused>
 fn front_in(k: &[u8], n: &[u8], limit: &[u8], span: &[u8]) -> Result<Rules, WhyRefused>
     ensures { result ≡ front_in k.now n.now limit.now span.now }
 {
-    let k = number(k, 1, 8)? as u8;
-    let n = number(n, 6, u64::from(N_MOST))? as u8;
+    let k = number(k, 1, u64::from(K_MOST))? as u8;
+    let n = number(n, u64::from(N_LEAST), u64::from(VERSION_1_N_MOST))? as u8;
     let limit = number(limit, 1, 1 << n)? as u32;
     let span = number(span, 1, MOST_TIME)?;
     Ok(Rules {
@@ -132,21 +131,5 @@ pub fn shape_in(rest: &[&[u8]]) -> Result<Rules, WhyRefused>
             back_in(front_in(k, n, limit, span)?, back)
         }
         _ => Err(WhyRefused::Fields),
-    }
-}
-
-/// Decodes the hex digits of a packet into the front of a buffer, and tells how many bytes they are.
-#[tactic(auto, unfolding(crate::specs::Reading::bytes_in))]
-pub fn bytes_in(field: &[u8], buffer: &mut [u8; MOST_PACKET_BYTES]) -> Result<usize, WhyRefused>
-    ensures within { IfOk result (λ n. n ≤ 1500) }
-    ensures value { MatchResult result (λ n. bytes_in field.now ≡ Ok (take n buffer.new)) (λ e. bytes_in field.now ≡ Err e) }
-{
-    if field.len() < 2 || field.len() > 2 * MOST_PACKET_BYTES {
-        return Err(WhyRefused::Field);
-    }
-    let size = field.len() / 2;
-    match hex::decode_to_slice(field, &mut buffer[..size]) {
-        Ok(()) => Ok(size),
-        Err(_) => Err(WhyRefused::Field),
     }
 }

@@ -2,26 +2,29 @@
 //! for, line by line.
 //!
 //! Its central contract is that of `read_trace`: a text is read exactly where it is a trace
-//! (`specs/Trace`), and refused exactly with its first fault (`specs/Fault`). `trace_or_fault` is the law
-//! that each text has one of the two, and only one. Read `specs/Spelling` for the form of each line,
-//! `specs/Table` for the rules on what it says and `specs/Before` for what they look at, then `reader`.
+//! (`specs/Trace`), and refused exactly with its first fault (`specs/Fault`). Each text has one of the two, and
+//! only one, and each trace keeps to `specs/Sound`, which is all that the crates above may rest on (`laws`).
+//! Read `specs/Spelling` for the form of each line, `specs/Table` for the rules on what it says and
+//! `specs/Before` for what they look at, then `reader`.
 #![tactic(auto)]
 
+mod digits;
 mod draft;
 mod fields;
 mod items;
-mod law;
+pub mod laws;
 mod limits;
 mod reader;
 mod refused;
 mod steps;
-#[cfg(test)]
-mod tests;
 mod text;
 mod words;
 
 pub use items::{Line, Trace, What};
-pub use law::trace_or_fault;
+pub use limits::{
+    MOST_NUMBER, MOST_PACKET_BYTES, MOST_PACKETS, MOST_QUERIES, MOST_RECORDS, MOST_ROTATES,
+    MOST_TICKS, MOST_TIME, VERSION_1_N_MOST,
+};
 pub use reader::read_trace;
 pub use refused::{ReadTraceRefused, TraceRefused, WhyRefused};
 

@@ -1,9 +1,8 @@
 // Reads the text of a trace.
 ghost use Rattle.std.specs.Prelude.{◌∷◌, [], ◌<◌, ◌^◌, length, IfOk, Ok, Err};
-ghost use Rattle.trace_format.specs.Answers.{Answers, RefusedWith};
 ghost use Rattle.trace_format.specs.Before.{known_of};
 ghost use Rattle.trace_format.specs.Fault.{IsFault};
-ghost use Rattle.trace_format.specs.Outcomes.{Reads};
+ghost use Rattle.trace_format.specs.Outcomes.{Reads, IsReadAs, RefusedWith};
 ghost use Rattle.trace_format.specs.Reading as reading;
 ghost use Rattle.trace_format.specs.Sound.{IsSound};
 ghost use Rattle.trace_format.specs.Text.{lines};
@@ -85,8 +84,8 @@ pub fn read_trace(alloc: Global, text: &[u8]) -> Result<Trace, ReadTraceRefused>
     ensures trace { IfOk result (λ trace. IsTrace text.now trace) }
     ensures sound { IfOk result IsSound }
     ensures fault { RefusedWith result (λ fault. IsFault text.now fault) }
-    ensures each_trace { (trace : Trace) → IsTrace text.now trace → Answers result (Ok trace) }
-    ensures each_fault { (fault : TraceRefused) → IsFault text.now fault → Answers result (Err fault) }
+    ensures each_trace { (trace : Trace) → IsTrace text.now trace → IsReadAs result (Ok trace) }
+    ensures each_fault { (fault : TraceRefused) → IsFault text.now fault → IsReadAs result (Err fault) }
 {
     read_text(alloc, text)
 }

@@ -1,20 +1,21 @@
 // Lines and fields of a text.
-ghost use Rattle.std.specs.Prelude.{◌≡◌, ◌<◌, ◌∷◌, [], ◌==◌, length, position, OnOk, IfSome, MatchOption, map};
-ghost use Rattle.trace_format.specs.Text.{HasCut, fields, is_name, is_name_byte};
-ghost use Rattle.std.specs.List.{list_all, slice_split};
+ghost use Rattle.std.specs.Prelude.{◌≡◌, ◌<◌, ◌==◌, length, position, OnOk, IfSome, MatchOption, map};
+ghost use Rattle.trace_format.specs.Text.{HasCut, IsUncut, fields, is_name, is_name_byte};
+ghost use Rattle.std.specs.List.{list_all};
 
+use memchr::memchr;
 use std::alloc::AllocFailed;
 
 fn byte_at(text: &[u8], byte: u8) -> Option<usize>
     ensures value { result ≡ position (λ b. b == byte) text.now }
     ensures within { IfSome result (λ end. end < length text.now) }
 {
-    text.iter().position(|b| *b == byte)
+    memchr(byte, text)
 }
 
 /// The part before the first of these bytes, and what stands behind it.
 pub fn cut(text: &[u8], byte: u8) -> Option<(&[u8], &[u8])>
-    ensures { MatchOption result (slice_split (λ b. b == byte) text.now ≡ text.now ∷ []) (λ cut. HasCut byte text.now cut.0.now cut.1.now) }
+    ensures { MatchOption result (IsUncut byte text.now) (λ cut. HasCut byte text.now cut.0.now cut.1.now) }
 {
     match byte_at(text, byte) {
         Some(end) => Some((&text[..end], &text[end + 1..])),

@@ -78,7 +78,7 @@ pub fn word_of(field: &[u8]) -> Option<Word>
 impl Stage {
     /// Whether a line with this word may come now.
     pub fn allows(self, word: Word) -> bool
-        ensures { result ≡ words.may_stand self word }
+        ensures { result ≡ words.may_come self word }
     {
         match self {
             Stage::Version => matches!(word, Word::Trace),

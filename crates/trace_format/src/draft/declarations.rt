@@ -35,13 +35,13 @@ impl Draft {
         if version != b"1".as_slice() {
             return Err(Stop::Rule(WhyRefused::Field));
         }
-        self.step_version()
+        self.accept_version()
     }
 
-    #[tactic(auto, unfolding(crate::specs::Reading::step, crate::specs::Reading::grown, crate::specs::Reading::judged))]
-    fn step_version(&mut self) -> Result<(), Stop>
+    #[tactic(auto, unfolding(crate::specs::Reading::accept, crate::specs::Reading::grown, crate::specs::Reading::judged))]
+    fn accept_version(&mut self) -> Result<(), Stop>
         requires { self.old.read < 2 ^ 40 }
-        ensures { Gives (λ _. self.new) result (reading.step self.old said.Version) }
+        ensures { Gives (λ _. self.new) result (reading.accept self.old said.Version) }
     {
         self.read += 1;
         self.stage = Stage::Shape;
@@ -55,13 +55,13 @@ impl Draft {
         ensures { Gives (λ _. self.new) result (reading.line_by self.old word.Shape (map (λ f. f.now) rest.now)) }
     {
         let rules = shape_in(rest)?;
-        self.step_shape(rules)
+        self.accept_shape(rules)
     }
 
-    #[tactic(auto, unfolding(crate::specs::Reading::step, crate::specs::Reading::grown, crate::specs::Reading::judged))]
-    fn step_shape(&mut self, rules: Rules) -> Result<(), Stop>
+    #[tactic(auto, unfolding(crate::specs::Reading::accept, crate::specs::Reading::grown, crate::specs::Reading::judged))]
+    fn accept_shape(&mut self, rules: Rules) -> Result<(), Stop>
         requires { self.old.read < 2 ^ 40 }
-        ensures { Gives (λ _. self.new) result (reading.step self.old (said.Shape rules)) }
+        ensures { Gives (λ _. self.new) result (reading.accept self.old (said.Shape rules)) }
     {
         self.read += 1;
         self.stage = Stage::Declarations;
@@ -88,7 +88,7 @@ impl Draft {
     {
         name_in(name)?;
         name_in(region)?;
-        self.step_router(alloc, name, region)
+        self.accept_router(alloc, name, region)
     }
 
     // The topology refuses by the rules of the table, in their order.
@@ -102,10 +102,10 @@ impl Draft {
         }
     }
 
-    #[tactic(auto, unfolding(crate::specs::Reading::step, crate::specs::Reading::grown))]
-    fn step_router(&mut self, alloc: Global, name: &[u8], region: &[u8]) -> Result<(), Stop>
+    #[tactic(auto, unfolding(crate::specs::Reading::accept, crate::specs::Reading::grown))]
+    fn accept_router(&mut self, alloc: Global, name: &[u8], region: &[u8]) -> Result<(), Stop>
         requires { self.old.read < 2 ^ 40 }
-        ensures { Gives (λ _. self.new) result (reading.step self.old (said.Router name.now region.now)) }
+        ensures { Gives (λ _. self.new) result (reading.accept self.old (said.Router name.now region.now)) }
     {
         self.add_router(alloc, name, region)?;
         self.read += 1;
@@ -132,7 +132,7 @@ impl Draft {
     {
         name_in(one)?;
         name_in(other)?;
-        self.step_link(alloc, one, other)
+        self.accept_link(alloc, one, other)
     }
 
     fn add_link(&mut self, alloc: Global, one: &[u8], other: &[u8]) -> Result<(), Stop>
@@ -145,10 +145,10 @@ impl Draft {
         }
     }
 
-    #[tactic(auto, unfolding(crate::specs::Reading::step, crate::specs::Reading::grown))]
-    fn step_link(&mut self, alloc: Global, one: &[u8], other: &[u8]) -> Result<(), Stop>
+    #[tactic(auto, unfolding(crate::specs::Reading::accept, crate::specs::Reading::grown))]
+    fn accept_link(&mut self, alloc: Global, one: &[u8], other: &[u8]) -> Result<(), Stop>
         requires { self.old.read < 2 ^ 40 }
-        ensures { Gives (λ _. self.new) result (reading.step self.old (said.Link one.now other.now)) }
+        ensures { Gives (λ _. self.new) result (reading.accept self.old (said.Link one.now other.now)) }
     {
         self.add_link(alloc, one, other)?;
         self.read += 1;
@@ -165,7 +165,7 @@ impl Draft {
         if !rest.is_empty() {
             return Err(Stop::Rule(WhyRefused::Fields));
         }
-        self.step_begin()
+        self.accept_begin()
     }
 
     #[tactic(auto, unfolding(crate::specs::Reading::judged))]
@@ -178,10 +178,10 @@ impl Draft {
         Ok(())
     }
 
-    #[tactic(auto, unfolding(crate::specs::Reading::step, crate::specs::Reading::grown))]
-    fn step_begin(&mut self) -> Result<(), Stop>
+    #[tactic(auto, unfolding(crate::specs::Reading::accept, crate::specs::Reading::grown))]
+    fn accept_begin(&mut self) -> Result<(), Stop>
         requires { self.old.read < 2 ^ 40 }
-        ensures { Gives (λ _. self.new) result (reading.step self.old said.Begin) }
+        ensures { Gives (λ _. self.new) result (reading.accept self.old said.Begin) }
     {
         self.judge_begin()?;
         self.read += 1;

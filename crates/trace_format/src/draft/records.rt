@@ -2,15 +2,16 @@
 ghost use Rattle.std.specs.Prelude.{◌≡◌, ◌<◌, ◌^◌, IfOk, OnOk, map};
 ghost use Rattle.packet_signature.specs.Signature.{signature_of};
 ghost use Rattle.trace_format.specs.Before.{router_of};
-ghost use Rattle.trace_format.specs.Limits.{most_records};
 ghost use Rattle.trace_format.specs.Outcomes.{Gives, Decides};
+ghost use Rattle.trace_format.specs.PacketFront.{HasPacketFront, packet_by};
 ghost use Rattle.trace_format.specs.Reading as reading;
 ghost use Rattle.trace_format.specs.Said as said;
 ghost use Rattle.trace_format.specs.Table as rules;
 ghost use Rattle.trace_format.specs.declared.words.Word.TheVariants as word;
 
 use super::Draft;
-use crate::fields::{bytes_in, kind_in, name_in, packet_number};
+use crate::digits::packet_front_in;
+use crate::fields::{kind_in, name_in, packet_number};
 use crate::items::{Line, What};
 use crate::limits::{MOST_PACKET_BYTES, MOST_PACKETS, MOST_RECORDS};
 use crate::refused::WhyRefused;
@@ -30,8 +31,18 @@ impl Draft {
             return Err(Stop::Rule(WhyRefused::Fields));
         };
         let mut buffer = [0u8; MOST_PACKET_BYTES];
-        let size = bytes_in(digits, &mut buffer)?;
-        self.step_packet(&buffer[..size])
+        let size = packet_front_in(digits, &mut buffer)?;
+        self.accept_front(digits, &buffer[..size])
+    }
+
+    // A packet by its length and its first bytes. `digits` is there for the contract alone.
+    fn accept_front(&mut self, digits: &[u8], held: &[u8]) -> Result<(), Stop>
+        requires short { self.old.read < 2 ^ 40 }
+        requires front { HasPacketFront digits.now held.now }
+        ensures { Gives (λ _. self.new) result (packet_by self.old digits.now) }
+    {
+        let _ = digits;
+        self.accept_packet(held)
     }
 
     #[tactic(auto, unfolding(crate::specs::Reading::judged))]
@@ -48,10 +59,10 @@ impl Draft {
         }
     }
 
-    #[tactic(auto, unfolding(crate::specs::Reading::step, crate::specs::Reading::grown))]
-    fn step_packet(&mut self, bytes: &[u8]) -> Result<(), Stop>
+    #[tactic(auto, unfolding(crate::specs::Reading::accept, crate::specs::Reading::grown))]
+    fn accept_packet(&mut self, bytes: &[u8]) -> Result<(), Stop>
         requires { self.old.read < 2 ^ 40 }
-        ensures { Gives (λ _. self.new) result (reading.step self.old (said.Packet bytes.now)) }
+        ensures { Gives (λ _. self.new) result (reading.accept self.old (said.Packet bytes.now)) }
     {
         let sig = self.judge_packet(bytes)?;
         self.sigs.push(sig)?;
@@ -79,14 +90,14 @@ impl Draft {
     {
         name_in(name)?;
         let packet = packet_number(packet)?;
-        self.step_fwd(name, packet)
+        self.accept_fwd(name, packet)
     }
 
     #[tactic(auto, unfolding(crate::specs::Reading::judged))]
     fn judge_fwd(&self, name: &[u8], packet: u32) -> Result<RouterId, WhyRefused>
         ensures value { Decides result (reading.judged self.now (said.Fwd name.now packet)) }
         ensures router { IfOk result (λ router. router ≡ router_of self.now.layout name.now) }
-        ensures room { OnOk result (self.now.records < most_records) }
+        ensures room { OnOk result (self.now.records < MOST_RECORDS) }
     {
         let router = self.named(name)?;
         if self.records >= MOST_RECORDS {
@@ -98,10 +109,10 @@ impl Draft {
         Ok(router)
     }
 
-    #[tactic(auto, unfolding(crate::specs::Reading::step, crate::specs::Reading::grown))]
-    fn step_fwd(&mut self, name: &[u8], packet: u32) -> Result<(), Stop>
+    #[tactic(auto, unfolding(crate::specs::Reading::accept, crate::specs::Reading::grown))]
+    fn accept_fwd(&mut self, name: &[u8], packet: u32) -> Result<(), Stop>
         requires { self.old.read < 2 ^ 40 }
-        ensures { Gives (λ _. self.new) result (reading.step self.old (said.Fwd name.now packet)) }
+        ensures { Gives (λ _. self.new) result (reading.accept self.old (said.Fwd name.now packet)) }
     {
         let router = self.judge_fwd(name, packet)?;
         self.read += 1;
@@ -135,7 +146,7 @@ impl Draft {
         let kind = kind_in(kind)?;
         let old = packet_number(old)?;
         let new = packet_number(new)?;
-        self.step_xf(name, kind, old, new)
+        self.accept_xf(name, kind, old, new)
     }
 
     // The protocol of a packet, by its signature.
@@ -164,7 +175,7 @@ impl Draft {
     fn judge_xf(&self, name: &[u8], kind: Kind, old: u32, new: u32) -> Result<RouterId, WhyRefused>
         ensures value { Decides result (reading.judged self.now (said.Xf name.now kind old new)) }
         ensures router { IfOk result (λ router. router ≡ router_of self.now.layout name.now) }
-        ensures room { OnOk result (self.now.records < most_records) }
+        ensures room { OnOk result (self.now.records < MOST_RECORDS) }
     {
         let router = self.named(name)?;
         if self.records >= MOST_RECORDS {
@@ -179,10 +190,10 @@ impl Draft {
         Ok(router)
     }
 
-    #[tactic(auto, unfolding(crate::specs::Reading::step, crate::specs::Reading::grown))]
-    fn step_xf(&mut self, name: &[u8], kind: Kind, old: u32, new: u32) -> Result<(), Stop>
+    #[tactic(auto, unfolding(crate::specs::Reading::accept, crate::specs::Reading::grown))]
+    fn accept_xf(&mut self, name: &[u8], kind: Kind, old: u32, new: u32) -> Result<(), Stop>
         requires { self.old.read < 2 ^ 40 }
-        ensures { Gives (λ _. self.new) result (reading.step self.old (said.Xf name.now kind old new)) }
+        ensures { Gives (λ _. self.new) result (reading.accept self.old (said.Xf name.now kind old new)) }
     {
         let router = self.judge_xf(name, kind, old, new)?;
         self.read += 1;

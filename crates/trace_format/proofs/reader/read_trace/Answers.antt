@@ -1,18 +1,16 @@
 use Rattle.std.proofs.Common.{ℕ, List, Ok, Err, Result, IfOk}
-use Rattle.trace_format.specs.Answers.{Answers, RefusedWith}
 use Rattle.trace_format.specs.Fault.{IsFault}
-use Rattle.trace_format.specs.Outcomes.{Reads}
+use Rattle.trace_format.specs.Outcomes.{Reads, RefusedWith}
 use Rattle.trace_format.specs.Reading.{read_of}
 use Rattle.trace_format.specs.Trace.{IsTrace}
 use Rattle.trace_format.specs.declared.items.Trace.{Trace}
 use Rattle.trace_format.specs.declared.refused.ReadTraceRefused.{ReadTraceRefused}
 use Rattle.trace_format.specs.declared.refused.ReadTraceRefused.TheVariants as ends
-use Rattle.trace_format.specs.declared.refused.TraceRefused.{TraceRefused}
 use Rattle.trace_format.proofs.Complete.{trace_is_read}
 use Rattle.trace_format.proofs.Faulty.{refused_is_fault}
 use Rattle.trace_format.proofs.Sole.{fault_is_read}
 use Rattle.trace_format.proofs.Sound.{read_is_trace}
-use Rattle.trace_format.proofs.Standing.{trace_is_sound}
+use Rattle.trace_format.proofs.Soundness.{trace_is_sound}
 use Rattle.trace_format.specs.Sound.{IsSound}
 use Rattle.trace_format.proofs.reader.read_trace.Goals as goal
 
@@ -29,11 +27,6 @@ by_refusal text (Ok trace) h = tt
 by_refusal text (Err ends.NoMemory) h = tt
 by_refusal text (Err (ends.Refused fault)) h = refused_is_fault text fault h
 
-answers : (r : Result Trace ReadTraceRefused) (read : Result Trace TraceRefused) → Reads (λ trace. trace) r read → Answers r read
-answers (Ok trace) read h = h
-answers (Err ends.NoMemory) read h = tt
-answers (Err (ends.Refused fault)) read h = h
-
 pub returns-clause-trace : goal.returns-clause-trace
 returns-clause-trace c = by_result c.args.text.now _ c.read_text.ensures
 
@@ -44,7 +37,7 @@ pub returns-clause-fault : goal.returns-clause-fault
 returns-clause-fault c = by_refusal c.args.text.now _ c.read_text.ensures
 
 pub returns-clause-each_trace : goal.returns-clause-each_trace
-returns-clause-each_trace c trace t = rw (← trace_is_read c.args.text.now trace t) (answers _ _ c.read_text.ensures)
+returns-clause-each_trace c trace t = rw (← trace_is_read c.args.text.now trace t) c.read_text.ensures
 
 pub returns-clause-each_fault : goal.returns-clause-each_fault
-returns-clause-each_fault c fault h = rw (← fault_is_read c.args.text.now fault h) (answers _ _ c.read_text.ensures)
+returns-clause-each_fault c fault h = rw (← fault_is_read c.args.text.now fault h) c.read_text.ensures
