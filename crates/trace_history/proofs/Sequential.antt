@@ -6,12 +6,13 @@ use Rattle.std.proofs.lemmas.Bool.{false≢true}
 use Rattle.std.proofs.lemmas.Bool.Decides.{Decides-eqb}
 use Rattle.std.proofs.lemmas.List.Elements.{Contains-append_cases}
 use Rattle.spie_base.specs.declared.Rules.{Rules}
-use Rattle.trace_history.specs.Account.{Account, fill}
-use Rattle.trace_history.specs.History.{Event, recorded, rotated, archived, watched, ticked, queried, ended, Step, History, Hop, account, account_after, clock, with_entry, with_closing}
-use Rattle.trace_history.specs.Pages.{open_page, is_due}
+use Rattle.router_account.specs.Account.{Account, fill, with_closing}
+use Rattle.trace_history.specs.History.{Event, recorded, rotated, archived, watched, ticked, queried, ended, Moment, History, Hop, account, account_after, clock, with_hop}
+use Rattle.page_catalogue.specs.Pages.{open_page, is_due}
 use Rattle.trace_history.specs.Receipts.{segment, up_to_barrier, open_at, Receipt, receipt_by, receipts, opened_by, openings, IsLegalFor, IsInTurn, IsSequential}
 use Rattle.trace_history.specs.Laws.{SequentialIsLegal}
-use Rattle.trace_history.proofs.Lists.{has_none, has_one, has_first, has_later}
+use Rattle.trace_history.specs.Routers.{RouterRules}
+use Rattle.spie_base.proofs.Membership.{has_none, has_one, has_first, has_later}
 
 -- an account is that of its router
 cond_router : (b : Bool) (x y : Account) → x.router ≡ y.router → (cond b x y).router ≡ y.router
@@ -19,17 +20,17 @@ cond_router true x y e = e
 cond_router false x y e = refl
 
 after_router : (rules : Rules) (event : Event) (t : ℕ) (a : Account) → (account_after rules event t a).router ≡ a.router
-after_router rules (recorded hop page) t a = cond_router (hop.router == a.router) (with_entry a hop page) a refl
+after_router rules (recorded hop page) t a = cond_router (hop.router == a.router) (with_hop a hop page) a refl
 after_router rules (rotated router page) t a = cond_router (router == a.router) (with_closing a t) a refl
 after_router rules (archived router put kept) t a = refl
 after_router rules (watched router sig answer) t a = refl
 after_router rules (ticked time left) t a = cond_router (is_due rules a.closings time (fill rules a (open_page a.closings))) (with_closing a time) a refl
-after_router rules (queried asked left) t a = refl
+after_router rules (queried query left) t a = refl
 after_router rules (ended left) t a = refl
 
-pub account_router : (rules : Rules) (router : ℕ) (history : History) → (account rules router history).router ≡ router
+pub account_router : (rules : RouterRules) (router : ℕ) (history : History) → (account rules router history).router ≡ router
 account_router rules router [] = refl
-account_router rules router (step ∷ history) = after_router rules step.event (clock history) (account rules router history) ∙ account_router rules router history
+account_router rules router (moment ∷ history) = after_router (rules router) moment.event (clock history) (account rules router history) ∙ account_router rules router history
 
 -- where an item of two lists stands
 get_cases : {X : Type 0} (xs ys : List X) (i : ℕ) (v : X) → slice_get (xs ++ ys) i ≡ Some v → ((slice_get xs i ≡ Some v) × (i < length xs)) ⊎ ((k : ℕ) × (slice_get ys k ≡ Some v) × (i ≡ length xs + k))
@@ -58,7 +59,7 @@ legal_none W r a = record {
   rising = λ i j x y l m e f. cc;
 }
 
-legal_more : (W r a : ℕ) (d : Step) (seg : History) → IsLegalFor W r a seg → IsFresh r a (length (openings r seg)) d.event → IsLegalFor W r a (d ∷ seg)
+legal_more : (W r a : ℕ) (d : Moment) (seg : History) → IsLegalFor W r a seg → IsFresh r a (length (openings r seg)) d.event → IsLegalFor W r a (d ∷ seg)
 legal_more W r a d seg h f =
     let n : length (openings r seg ++ opened_by r d.event) ≡ length (openings r seg) + length (opened_by r d.event) = length-append (openings r seg) (opened_by r d.event) in
     let m = length (openings r seg) in
@@ -87,7 +88,7 @@ legal_more W r a d seg h f =
     }
 
 -- the open page grows by the openings of the segment
-same_closings : (b : Bool) (a : Account) (hop : Hop) (page : ℕ) → length (cond b (with_entry a hop page) a).closings ≡ length a.closings
+same_closings : (b : Bool) (a : Account) (hop : Hop) (page : ℕ) → length (cond b (with_hop a hop page) a).closings ≡ length a.closings
 same_closings true a hop page = refl
 same_closings false a hop page = refl
 
@@ -97,7 +98,7 @@ one_closing false false a t page e = omega arith
 one_closing true false a t page e = absurd (false≢true (sym e))
 one_closing false true a t page e = absurd (false≢true e)
 
-grow_by : (rules : Rules) (r line : ℕ) (history : History) (d : Event) → open_at rules r history ≡ open_at rules r (up_to_barrier history) + length (openings r (segment history)) → open_at rules r (record { line = line; event = d } ∷ history) ≡ open_at rules r (up_to_barrier (record { line = line; event = d } ∷ history)) + length (openings r (segment (record { line = line; event = d } ∷ history)))
+grow_by : (rules : RouterRules) (r line : ℕ) (history : History) (d : Event) → open_at rules r history ≡ open_at rules r (up_to_barrier history) + length (openings r (segment history)) → open_at rules r (record { line = line; event = d } ∷ history) ≡ open_at rules r (up_to_barrier (record { line = line; event = d } ∷ history)) + length (openings r (segment (record { line = line; event = d } ∷ history)))
 grow_by rules r line history (recorded hop page) e =
     same_closings (hop.router == (account rules r history).router) (account rules r history) hop page ∙ e ∙ ap (λ (l : List ℕ). open_at rules r (up_to_barrier history) + length l) (sym (append-nil (openings r (segment history))))
 grow_by rules r line history (rotated router page) e =
@@ -107,10 +108,10 @@ grow_by rules r line history (rotated router page) e =
 grow_by rules r line history (archived router put kept) e = e ∙ ap (λ (l : List ℕ). open_at rules r (up_to_barrier history) + length l) (sym (append-nil (openings r (segment history))))
 grow_by rules r line history (watched router sig answer) e = e ∙ ap (λ (l : List ℕ). open_at rules r (up_to_barrier history) + length l) (sym (append-nil (openings r (segment history))))
 grow_by rules r line history (ticked time left) e = omega arith
-grow_by rules r line history (queried asked left) e = omega arith
+grow_by rules r line history (queried query left) e = omega arith
 grow_by rules r line history (ended left) e = omega arith
 
-grow : (rules : Rules) (r : ℕ) (history : History) → open_at rules r history ≡ open_at rules r (up_to_barrier history) + length (openings r (segment history))
+grow : (rules : RouterRules) (r : ℕ) (history : History) → open_at rules r history ≡ open_at rules r (up_to_barrier history) + length (openings r (segment history))
 grow rules r [] = refl
 grow rules r (d ∷ history) = grow_by rules r d.line history d.event (grow rules r history)
 
@@ -122,7 +123,7 @@ opens_one false page k p n e is = absurd (none_there k p e)
 opens_one true page zero p n e is = let same : page ≡ p = cc in let at = is refl in omega arith
 opens_one true page (suc k) p n e is = absurd (none_there k p e)
 
-legal_by : (W r : ℕ) (rules : Rules) (line : ℕ) (history : History) (d : Event) → IsInTurn rules history d → IsLegalFor W r (open_at rules r (up_to_barrier history)) (segment history) → IsLegalFor W r (open_at rules r (up_to_barrier (record { line = line; event = d } ∷ history))) (segment (record { line = line; event = d } ∷ history))
+legal_by : (W r : ℕ) (rules : RouterRules) (line : ℕ) (history : History) (d : Event) → IsInTurn rules history d → IsLegalFor W r (open_at rules r (up_to_barrier history)) (segment history) → IsLegalFor W r (open_at rules r (up_to_barrier (record { line = line; event = d } ∷ history))) (segment (record { line = line; event = d } ∷ history))
 legal_by W r rules line history (recorded hop page) now h =
     legal_more W r (open_at rules r (up_to_barrier history)) (record { line = line; event = recorded hop page }) (segment history) h (record {
       few = omega arith;
@@ -147,10 +148,10 @@ legal_by W r rules line history (archived router put kept) now h =
 legal_by W r rules line history (watched router sig answer) now h =
     legal_more W r (open_at rules r (up_to_barrier history)) (record { line = line; event = watched router sig answer }) (segment history) h (record { few = omega arith; stay = λ x i e. absurd (has_none x i); opening = λ k p e. absurd (none_there k p e) })
 legal_by W r rules line history (ticked time left) now h = legal_none W r _
-legal_by W r rules line history (queried asked left) now h = legal_none W r _
+legal_by W r rules line history (queried query left) now h = legal_none W r _
 legal_by W r rules line history (ended left) now h = legal_none W r _
 
-sequential_segment : (W r : ℕ) (rules : Rules) (history : History) → IsSequential rules history → IsLegalFor W r (open_at rules r (up_to_barrier history)) (segment history)
+sequential_segment : (W r : ℕ) (rules : RouterRules) (history : History) → IsSequential rules history → IsLegalFor W r (open_at rules r (up_to_barrier history)) (segment history)
 sequential_segment W r rules [] h = legal_none W r _
 sequential_segment W r rules (d ∷ history) h = legal_by W r rules d.line history d.event h.1 (sequential_segment W r rules history h.0)
 

@@ -1,9 +1,11 @@
-pub mod Account
 pub mod History
 pub mod Laws
+pub mod Ledgers
 pub mod Outcomes
-pub mod Pages
 pub mod Receipts
 pub mod Replay
 pub mod Report
+pub mod Routers
 pub mod Sights
+pub mod Watched
+pub mod Workers

@@ -1,89 +1,78 @@
 -- What the shelf may have done: which pages an archival put or kept, which a barrier left behind, and which a
--- query could not read or read back.
-use Rattle.std.specs.Prelude.{ℕ, ◌≡◌, List, [], ◌∷◌, ◌++◌, Bool, true, false, ◌==◌, ◌⊎◌, ◌↔◌, IsTrue, if◌then◌else◌}
-use Rattle.std.specs.List.{Contains, flat_map}
-use Rattle.std.specs.Ordering.{nat_cmp, ordering_then}
-use Rattle.std.specs.declared.cmp.Ordering.{Ordering}
-use Rattle.std.specs.declared.cmp.Ordering.TheVariants.{Less}
-use Rattle.spie_base.specs.declared.Rules.{Rules}
-use Rattle.trace_history.specs.Pages.{is_closed, is_expired, is_in_window}
-use Rattle.trace_history.specs.History.{Event, archived, ticked, queried, ended, History, Asked, UnreadPage, GotPage, LeftPage, account, clock}
-use Rattle.trace_history.specs.Receipts.{up_to_barrier}
-use Rattle.trace_history.specs.Sights.{is_unread}
+-- query could not read or read back. All is said of so many routers, those of the trace.
+use Rattle.std.specs.Prelude.{ℕ, ◌+◌, ◌<◌, List, [], ◌∷◌, length}
+use Rattle.spie_base.specs.Causes.{RoseBy}
+use Rattle.router_account.specs.Barriers.{IsSplit, AreLeft, archive_view}
+use Rattle.router_account.specs.Records.{HaveDigests, AreTrue, AllFailed}
+use Rattle.router_account.specs.Sights.{IsRead, failures}
+use Rattle.trace_history.specs.History.{Event, archived, ticked, queried, ended, History, QueryRun, account}
+use Rattle.trace_history.specs.Ledgers.{ledger, puts}
+use Rattle.trace_history.specs.Routers.{RouterRules, sum_over}
+use Rattle.trace_history.specs.Sights.{query_window}
 
--- each item is below those after it
-abbrev pub IsRising : {X : Type 0} → (X → X → Ordering) → List X → Type 0
-IsRising cmp [] = Unit {0}
-IsRising cmp (x ∷ xs) = ((y : _) → Contains xs y → cmp x y ≡ Less) × IsRising cmp xs
+-- an archival covers what no archival before it put, be it in this segment or in an earlier one
+abbrev pub IsArchived : RouterRules → (before : History) → (router : ℕ) → (put kept : List ℕ) → Type 0
+IsArchived rules before r put kept =
+    let l = ledger rules r before in
+    IsSplit (rules r) (record (archive_view l l.account.closings) { put_before = puts r before }) (record { put = put; kept = kept })
 
--- the pages of a router that archivals put, and those that they covered
-abbrev pub put_by : (router : ℕ) → Event → List ℕ
-put_by r (archived router put kept) = if router == r then put else []
-put_by r _ = []
+abbrev pub AreAllLeft : (routers : ℕ) → RouterRules → (before after : History) → (left : ℕ → List ℕ) → Type 0
+AreAllLeft routers rules before after left = (r : ℕ) → r < routers → AreLeft (rules r) (ledger rules r before) (ledger rules r after) (left r)
 
-abbrev pub puts : (router : ℕ) → History → List ℕ
-puts r history = flat_map (λ step. put_by r step.event) history
-
-abbrev pub covered_by : (router : ℕ) → Event → List ℕ
-covered_by r (archived router put kept) = if router == r then put ++ kept else []
-covered_by r _ = []
-
-abbrev pub covers : (router : ℕ) → History → List ℕ
-covers r history = flat_map (λ step. covered_by r step.event) history
-
--- whether a page was expired at the last barrier of a history
-abbrev pub was_expired : Rules → (router : ℕ) → History → (page : ℕ) → Bool
-was_expired rules router history page = is_expired rules (account rules router (up_to_barrier history)).closings (clock (up_to_barrier history)) page
-
--- an archival covers the pages that are closed, were not expired at the last barrier, and were not put before
-pub record IsCovered (rules : Rules) (router : ℕ) (history : History) (page : ℕ) : Type 0 where
-  pub closed : IsTrue (is_closed (account rules router history).closings page)
-  pub live : was_expired rules router history page ≡ false
-  pub unput : Contains (puts router history) page → ⊥
-
-pub record IsArchived (rules : Rules) (history : History) (router : ℕ) (put kept : List ℕ) : Type 0 where
-  pub put_rises : IsRising nat_cmp put
-  pub kept_rises : IsRising nat_cmp kept
-  pub apart : (page : ℕ) → Contains put page → Contains kept page → ⊥
-  pub all : (page : ℕ) → (Contains put page ⊎ Contains kept page) ↔ IsCovered rules router history page
-
-abbrev pub left_cmp : LeftPage → LeftPage → Ordering
-left_cmp a b = ordering_then (nat_cmp a.router b.router) (nat_cmp a.page b.page)
-
--- pages that expire first at a barrier, and were covered before it
-pub record AreLeft (rules : Rules) (before after : History) (left : List LeftPage) : Type 0 where
-  pub ordered : IsRising left_cmp left
-  pub expired : (x : LeftPage) → Contains left x → is_expired rules (account rules x.router after).closings (clock after) x.page ≡ true
-  pub first : (x : LeftPage) → Contains left x → was_expired rules x.router before x.page ≡ false
-  pub covered : (x : LeftPage) → Contains left x → Contains (covers x.router before) x.page
-
--- a page in a query's window that is not expired, and was put
-pub record IsShelved (rules : Rules) (history : History) (time router page : ℕ) : Type 0 where
-  pub window : IsTrue (is_in_window rules (account rules router history).closings time page)
-  pub live : is_expired rules (account rules router history).closings (clock history) page ≡ false
-  pub put : Contains (puts router history) page
-
-abbrev pub unread_cmp : UnreadPage → UnreadPage → Ordering
-unread_cmp a b = ordering_then (nat_cmp a.router b.router) (nat_cmp a.page b.page)
-
-abbrev pub got_cmp : GotPage → GotPage → Ordering
-got_cmp a b = ordering_then (nat_cmp a.router b.router) (nat_cmp a.page b.page)
-
--- a query could not read some of the shelved pages of its window, and read all others back
-pub record IsRead (rules : Rules) (history : History) (asked : Asked) : Type 0 where
-  pub unread_rises : IsRising unread_cmp asked.unread
-  pub unread : (x : UnreadPage) → Contains asked.unread x → IsShelved rules history asked.time x.router x.page
-  pub got_rises : IsRising got_cmp asked.got
-  pub got : (router page : ℕ) → ((x : GotPage) × Contains asked.got x × (x.router ≡ router) × (x.page ≡ page)) ↔ (IsShelved rules history asked.time router page × (is_unread asked router page ≡ false))
+abbrev pub AreAllRead : (routers : ℕ) → RouterRules → (after : History) → QueryRun → Type 0
+AreAllRead routers rules after query =
+    (r : ℕ) → r < routers → IsRead (rules r) (ledger rules r after) (query_window rules after query r) (query.reads r)
 
 -- what an event may be answered, by the histories before it and after it
-abbrev pub IsAllowedEvent : Rules → (before after : History) → Event → Type 0
-IsAllowedEvent rules before after (archived router put kept) = IsArchived rules before router put kept
-IsAllowedEvent rules before after (ticked time left) = AreLeft rules before after left
-IsAllowedEvent rules before after (queried asked left) = IsRead rules before asked × AreLeft rules before after left
-IsAllowedEvent rules before after (ended left) = AreLeft rules before after left
-IsAllowedEvent rules before after _ = Unit {0}
+abbrev pub IsAllowedEvent : (routers : ℕ) → RouterRules → (before after : History) → Event → Type 0
+IsAllowedEvent routers rules before after (archived r put kept) = IsArchived rules before r put kept
+IsAllowedEvent routers rules before after (ticked time left) = AreAllLeft routers rules before after left
+IsAllowedEvent routers rules before after (queried query left) = AreAllRead routers rules after query × AreAllLeft routers rules before after left
+IsAllowedEvent routers rules before after (ended left) = AreAllLeft routers rules before after left
+IsAllowedEvent routers rules before after _ = Unit {0}
 
-abbrev pub IsAllowed : Rules → History → Type 0
-IsAllowed rules [] = Unit {0}
-IsAllowed rules (step ∷ history) = IsAllowed rules history × IsAllowedEvent rules history (step ∷ history) step.event
+abbrev pub IsAllowed : (routers : ℕ) → RouterRules → History → Type 0
+IsAllowed routers rules [] = Unit {0}
+IsAllowed routers rules (moment ∷ history) =
+    IsAllowed routers rules history × IsAllowedEvent routers rules history (moment ∷ history) moment.event
+
+-- ---- what was read back
+
+abbrev pub IfQuery : (History → QueryRun → Type 0) → (after : History) → Event → Type 0
+IfQuery P after (queried query left) = P after query
+IfQuery P after _ = Unit {0}
+
+-- what holds of each query of a history, by the history that ends with it
+abbrev pub EachQuery : (History → QueryRun → Type 0) → History → Type 0
+EachQuery P [] = Unit {0}
+EachQuery P (moment ∷ history) = EachQuery P history × IfQuery P (moment ∷ history) moment.event
+
+-- what was read has the digests of the true records
+abbrev pub HasSameDigests : (routers : ℕ) → RouterRules → (after : History) → QueryRun → Type 0
+HasSameDigests routers rules after query = (r : ℕ) → r < routers → HaveDigests (rules r) (account rules r after) (query.reads r)
+
+-- what was read is what was recorded
+abbrev pub IsTrueQuery : (routers : ℕ) → RouterRules → (after : History) → QueryRun → Type 0
+IsTrueQuery routers rules after query = (r : ℕ) → r < routers → AreTrue (rules r) (account rules r after) (query.reads r)
+
+-- faults of the shelf alone made pages unreadable
+abbrev pub HasOnlyFaults : (routers : ℕ) → (after : History) → QueryRun → Type 0
+HasOnlyFaults routers after query = (r : ℕ) → r < routers → AllFailed (query.reads r)
+
+-- ---- faults
+
+-- the kept pages, left pages and failed pages of a line: for each a call of the shelf failed
+abbrev pub fault_marks_by : (routers : ℕ) → Event → ℕ
+fault_marks_by routers (archived r put kept) = length kept
+fault_marks_by routers (ticked time left) = sum_over routers (λ r. length (left r))
+fault_marks_by routers (queried query left) = sum_over routers (λ r. length (left r)) + sum_over routers (λ r. failures (query.reads r))
+fault_marks_by routers (ended left) = sum_over routers (λ r. length (left r))
+fault_marks_by routers _ = 0
+
+abbrev pub fault_marks : (routers : ℕ) → History → ℕ
+fault_marks routers [] = 0
+fault_marks routers (moment ∷ history) = fault_marks routers history + fault_marks_by routers moment.event
+
+-- each mark has a failed call of its own
+abbrev pub ArePaid : (routers : ℕ) → History → (before now : ℕ) → Type 0
+ArePaid routers history before now = RoseBy (fault_marks routers history) before now

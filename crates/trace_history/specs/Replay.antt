@@ -1,23 +1,57 @@
 -- What a replay by one worker answers.
---
--- Two things are not said yet, since no line that they speak of can be replayed: what a watch answers, and
--- that a page that was read from the shelf holds what was put there.
-use Rattle.std.specs.Prelude.{◌≡◌, ℕ, List}
+use Rattle.std.specs.Prelude.{◌≡◌, ◌<◌, ℕ, List, true}
 use Rattle.report_text.specs.declared.Item.{Item}
+use Rattle.trace_format.specs.declared.Line.{Line}
 use Rattle.trace_format.specs.declared.Trace.{Trace}
+use Rattle.router_account.specs.Records.{Holds}
+use Rattle.router_account.specs.Shelves.{ShelfView, empty_shelf}
 use Rattle.trace_history.specs.declared.totals.Totals.{Totals}
 use Rattle.trace_history.specs.History.{History, IsHistoryOf}
+use Rattle.trace_history.specs.Ledgers.{ledger}
+use Rattle.trace_history.specs.Outcomes.{IsAllowed, EachQuery, HasSameDigests, IsTrueQuery, HasOnlyFaults, ArePaid}
 use Rattle.trace_history.specs.Receipts.{IsSequential}
-use Rattle.trace_history.specs.Outcomes.{IsAllowed}
 use Rattle.trace_history.specs.Report.{AreItemsOf, text_of, totals_of}
+use Rattle.trace_history.specs.Routers.{count, rules_of}
+use Rattle.trace_history.specs.Watched.{AreSequentialWatches}
 
--- some history of the trace's lines, with the receipts of one worker and what a shelf may have done, has this report
-pub record IsReplayed (t : Trace) (text : List ℕ) (totals : Totals) : Type 0 where
-  pub history : History
+-- what a replay is seen to have done beside its report: the shelf before it and after it
+pub record ReplayViews : Type 0 where
+  pub shelf_before : ShelfView
+  pub shelf_after : ShelfView
+
+-- a replay that has no shelf: as with one that tells that nothing is there, and never fails
+abbrev pub no_shelf : ReplayViews
+no_shelf = record { shelf_before = empty_shelf; shelf_after = empty_shelf }
+
+-- what a history says of the shelf. For each page that was kept, left, or failed to be read a call of it failed. Where
+-- it tells what stands there, all that was read back is what was recorded, nothing but its faults made pages
+-- unreadable, and it holds the true records of the pages that were put and have not expired, and no name of the others
+-- that were covered and not left
+pub record IsShelfOf (t : Trace) (before after : ShelfView) (history : History) : Type 0 where
+  pub paid : ArePaid (count t) history before.faults after.faults
+  pub all_true : before.tells ≡ true → EachQuery (IsTrueQuery (count t) (rules_of t)) history
+  pub only_faults : before.tells ≡ true → EachQuery (HasOnlyFaults (count t)) history
+  pub holds : before.tells ≡ true → (r : ℕ) → r < count t → Holds (rules_of t r) after.contents (ledger (rules_of t) r history)
+
+-- a history of these lines, with what a shelf may have done
+pub record IsPossible (t : Trace) (lines : List Line) (before after : ShelfView) (history : History) : Type 0 where
+  pub lines_are : IsHistoryOf t.sigs lines history
+  pub allowed : IsAllowed (count t) (rules_of t) history
+  pub same_digests : EachQuery (HasSameDigests (count t) (rules_of t)) history
+  pub shelf : IsShelfOf t before after history
+
+-- the report of a history, and the sums over it
+pub record IsReportOf (t : Trace) (history : History) (text : List ℕ) (totals : Totals) : Type 0 where
   pub items : List Item
-  pub lines : IsHistoryOf t.sigs t.lines history
-  pub sequential : IsSequential t.rules history
-  pub allowed : IsAllowed t.rules history
   pub answered : AreItemsOf t history items
   pub text_is : text ≡ text_of t items
   pub totals_are : totals ≡ totals_of items
+
+-- some history of the trace's lines, with the receipts and watches of one worker and what a shelf may have done, has
+-- this report
+pub record IsReplayed (t : Trace) (text : List ℕ) (totals : Totals) (views : ReplayViews) : Type 0 where
+  pub history : History
+  pub sequential : IsSequential (rules_of t) history
+  pub watched : AreSequentialWatches (rules_of t) history
+  pub done : IsPossible t t.lines views.shelf_before views.shelf_after history
+  pub report : IsReportOf t history text totals

@@ -1,67 +1,56 @@
 -- The report of a trace, by its history.
-use Rattle.std.specs.Prelude.{ℕ, ◌+◌, ◌≡◌, ◌==◌, List, [], ◌∷◌, ◌++◌, length, map, filter, fold, if◌then◌else◌, Some, None}
+use Rattle.std.specs.Prelude.{ℕ, ◌+◌, ◌≡◌, List, [], ◌∷◌, ◌++◌, length, map, fold, Some, None, true}
 use Rattle.std.specs.declared.option.Option.{Option}
 use Rattle.std.specs.List.{flat_map}
-use Rattle.spie_base.specs.declared.PageNo.{PageNo}
-use Rattle.spie_base.specs.declared.PageRange.{PageRange}
-use Rattle.spie_base.specs.declared.RouterId.{RouterId}
 use Rattle.reverse_flood.specs.declared.Graph.{Graph}
 use Rattle.reverse_flood.specs.Flood.{IsFlood}
 use Rattle.report_text.specs.declared.Bad.{Bad}
+use Rattle.report_text.specs.declared.CauseWord.{CauseWord}
+use Rattle.report_text.specs.declared.CauseWord.TheVariants as word
 use Rattle.report_text.specs.declared.Item.{Item}
 use Rattle.report_text.specs.declared.Item.TheVariants as item
 use Rattle.report_text.specs.Report.{item_text}
 use Rattle.trace_format.specs.declared.Trace.{Trace}
+use Rattle.router_account.specs.declared.Cause.{Cause}
+use Rattle.router_account.specs.declared.Cause.TheVariants.{Failed, Other, Absent, Broken}
+use Rattle.router_account.specs.declared.Watch.{Watch as WatchAnswer}
+use Rattle.router_account.specs.declared.Watch.TheVariants.{Seen, NotSeen, Unknown}
+use Rattle.router_account.specs.Barriers.{Closing, closing_at}
+use Rattle.router_account.specs.Sights.{UnreadPage, used_by, expired_by, page_no, range_of}
 use Rattle.trace_history.specs.declared.totals.Totals.{Totals}
-use Rattle.trace_history.specs.Pages.{open_page, is_due, is_expired}
-use Rattle.trace_history.specs.Account.{below, fill, window}
-use Rattle.trace_history.specs.History.{Event, recorded, rotated, archived, watched, ticked, queried, ended, History, WatchAnswer, seen, not_seen, unsure, Asked, UnreadPage, LeftPage, account, clock}
-use Rattle.trace_history.specs.Sights.{net_at, start_of, used_at}
+use Rattle.trace_history.specs.History.{Event, recorded, rotated, archived, watched, ticked, queried, ended, History, QueryRun}
+use Rattle.trace_history.specs.Ledgers.{ledger}
+use Rattle.trace_history.specs.Routers.{router_id, routers, rules_of}
+use Rattle.trace_history.specs.Sights.{net_at, start_of, query_window}
 
-abbrev pub router_id : ℕ → RouterId
-router_id router = record { number = router }
-
-abbrev pub page_no : ℕ → PageNo
-page_no page = record { number = page }
+abbrev pub word_of : Cause → CauseWord
+word_of Failed = word.Failed
+word_of (Other kept found) = word.Other
+word_of Absent = word.Absent
+word_of Broken = word.Broken
 
 abbrev pub bad_of : UnreadPage → Bad
-bad_of x = record { page = page_no x.page; cause = x.cause }
+bad_of x = record { page = page_no x.page; cause = word_of x.cause }
 
--- the last of a page and those behind it
-abbrev pub last_of : ℕ → List ℕ → ℕ
-last_of page [] = page
-last_of page (next ∷ more) = last_of next more
+-- the page of a router that a barrier closes
+abbrev pub closing_items : (line router : ℕ) → Option Closing → List Item
+closing_items line router None = []
+closing_items line router (Some x) = item.Closed line (router_id router) (page_no x.page) x.bits ∷ []
 
--- the first and the last of some pages
-abbrev pub range_of : List ℕ → Option PageRange
-range_of [] = None
-range_of (first ∷ more) = Some (record { first = page_no first; last = page_no (last_of first more) })
+abbrev pub closed_items : Trace → (before : History) → (line time router : ℕ) → List Item
+closed_items t before line time router = closing_items line router (closing_at (rules_of t router) (ledger (rules_of t) router before) time true)
 
--- the routers of a trace, ascending
-abbrev pub routers : Trace → List ℕ
-routers t = below (length t.topology.names)
-
--- the page of a router that a tick of this time closes, by its account before the tick
-abbrev pub closed_items : Trace → History → (line time router : ℕ) → List Item
-closed_items t history line time router =
-    let a = account t.rules router history in
-    if is_due t.rules a.closings time (fill t.rules a (open_page a.closings))
-    then item.Closed line (router_id router) (page_no (open_page a.closings)) (fill t.rules a (open_page a.closings)) ∷ []
-    else []
-
-abbrev pub left_item : (line : ℕ) → LeftPage → Item
-left_item line x = item.Left line (router_id x.router) (page_no x.page)
-
--- the expired pages of a query's window
-abbrev pub expired_at : Trace → History → Asked → (router : ℕ) → List ℕ
-expired_at t history asked router =
-    filter (is_expired t.rules (account t.rules router history).closings (clock history)) (window t.rules (account t.rules router history) asked.time)
+-- the pages of a router that a barrier could not discard
+abbrev pub left_items : (line : ℕ) → (left : ℕ → List ℕ) → (router : ℕ) → List Item
+left_items line left router = map (λ page. item.Left line (router_id router) (page_no page)) (left router)
 
 -- the pages of a query's window at a router
-abbrev pub pages_item : Trace → History → (line : ℕ) → Asked → (router : ℕ) → Item
-pages_item t history line asked router =
-    item.Pages line (router_id router) (range_of (expired_at t history asked router))
-    (map bad_of (filter (λ x. x.router == router) asked.unread)) (map page_no (used_at t.rules history asked router))
+abbrev pub pages_item : Trace → (after : History) → (line : ℕ) → QueryRun → (router : ℕ) → Item
+pages_item t after line query router =
+    let l = ledger (rules_of t) router after in
+    let pages = query_window (rules_of t) after query router in
+    item.Pages line (router_id router) (range_of (expired_by (rules_of t router) l pages))
+    (map bad_of (query.reads router).unread) (map page_no (used_by (rules_of t router) l pages (query.reads router)))
 
 -- how much a graph has
 abbrev pub answer_item : (line : ℕ) → Graph → Item
@@ -73,31 +62,31 @@ graph_items line graph =
     map (item.NodeLine line) graph.nodes ++ map (item.EdgeLine line) graph.edges ++ map (item.UnknownLine line) graph.unknown ++ answer_item line graph ∷ []
 
 abbrev pub watch_item : (line : ℕ) → WatchAnswer → Item
-watch_item line seen = item.Seen line
-watch_item line not_seen = item.NotSeen line
-watch_item line unsure = item.Unknown line
+watch_item line Seen = item.Seen line
+watch_item line NotSeen = item.NotSeen line
+watch_item line Unknown = item.Unknown line
 
 -- the items of a query: its graph is the reverse flood over what it reads
-abbrev pub AreQueryItems : Trace → History → (line : ℕ) → Asked → List LeftPage → List Item → Type 0
-AreQueryItems t history line asked left items =
-    (graph : Graph) × IsFlood (net_at t.rules t.topology history asked) (start_of asked) graph
-    × (items ≡ item.Query line ∷ map (left_item line) left ++ map (pages_item t history line asked) (routers t) ++ graph_items line graph)
+abbrev pub AreQueryItems : Trace → (after : History) → (line : ℕ) → QueryRun → (left : ℕ → List ℕ) → List Item → Type 0
+AreQueryItems t after line query left items =
+    (graph : Graph) × IsFlood (net_at (rules_of t) t.topology after query) (start_of query) graph
+    × (items ≡ item.Query line ∷ flat_map (left_items line left) (routers t) ++ map (pages_item t after line query) (routers t) ++ graph_items line graph)
 
--- the items that answer a step, by the history before it
-abbrev pub AreItems : Trace → History → (line : ℕ) → Event → List Item → Type 0
-AreItems t history line (recorded hop page) items = items ≡ item.Entered line (page_no page) ∷ []
-AreItems t history line (rotated router page) items = items ≡ item.Opened line (page_no page) ∷ []
-AreItems t history line (archived router put kept) items = items ≡ item.Archived line (router_id router) (map page_no put) (map page_no kept) ∷ []
-AreItems t history line (watched router sig answer) items = items ≡ watch_item line answer ∷ []
-AreItems t history line (ticked time left) items = items ≡ item.Tick line time ∷ flat_map (closed_items t history line time) (routers t) ++ map (left_item line) left
-AreItems t history line (queried asked left) items = AreQueryItems t history line asked left items
-AreItems t history line (ended left) items = items ≡ item.End line ∷ map (left_item line) left
+-- the items that answer a line, by the histories before it and after it
+abbrev pub AreItems : Trace → (before after : History) → (line : ℕ) → Event → List Item → Type 0
+AreItems t before after line (recorded hop page) items = items ≡ item.Entered line (page_no page) ∷ []
+AreItems t before after line (rotated router page) items = items ≡ item.Opened line (page_no page) ∷ []
+AreItems t before after line (archived router put kept) items = items ≡ item.Archived line (router_id router) (map page_no put) (map page_no kept) ∷ []
+AreItems t before after line (watched router sig answer) items = items ≡ watch_item line answer ∷ []
+AreItems t before after line (ticked time left) items = items ≡ item.Tick line time ∷ flat_map (closed_items t before line time) (routers t) ++ flat_map (left_items line left) (routers t)
+AreItems t before after line (queried query left) items = AreQueryItems t after line query left items
+AreItems t before after line (ended left) items = items ≡ item.End line ∷ flat_map (left_items line left) (routers t)
 
 -- the items of a report, in order
 abbrev pub AreItemsOf : Trace → History → List Item → Type 0
 AreItemsOf t [] items = items ≡ item.Head ∷ []
-AreItemsOf t (step ∷ history) items =
-    (front answer : List Item) × AreItemsOf t history front × AreItems t history step.line step.event answer × (items ≡ front ++ answer)
+AreItemsOf t (moment ∷ history) items =
+    (front answer : List Item) × AreItemsOf t history front × AreItems t history (moment ∷ history) moment.line moment.event answer × (items ≡ front ++ answer)
 
 abbrev pub text_of : Trace → List Item → List ℕ
 text_of t items = flat_map (item_text t.topology.names) items

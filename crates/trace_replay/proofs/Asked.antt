@@ -1,10 +1,11 @@
 -- A query's answer is the flood over what it reads.
-use Rattle.std.proofs.Common.{ℕ, zero, suc, ◌≡◌, ◌+◌, ◌<◌, ◌≤◌, ◌∷◌, [], ◌++◌, ◌∙◌, Bool, false, List, length, map, get_or, sym, ap, refl, subst, arith, append-nil, length-append}
+use Rattle.std.proofs.Common.{ℕ, zero, suc, ◌≡◌, ◌+◌, ◌<◌, ◌≤◌, ◌∷◌, [], ◌++◌, ◌∙◌, false, List, length, map, get_or, sym, ap, refl, subst, arith, append-nil, length-append}
 use Rattle.std.specs.Prelude.{slice_get, Some, unwrap_or, option_map, fold}
 use Rattle.std.specs.declared.option.Option.{Option}
 use Rattle.std.specs.Bool.{IsTrue}
 use Rattle.std.specs.List.{Contains}
 use Rattle.std.proofs.lemmas.Grind.{flat_map-append}
+use Rattle.spie_base.specs.Shapes.{shape_of}
 use Rattle.spie_base.specs.declared.RouterId.{RouterId}
 use Rattle.spie_base.specs.declared.Sig.{Sig}
 use Rattle.bloom_page.specs.Sets.{PageSet, are_in}
@@ -20,29 +21,23 @@ use Rattle.trace_format.specs.declared.Trace.{Trace}
 use Rattle.trace_format.specs.declared.What.{What}
 use Rattle.trace_format.specs.declared.What.TheVariants.{Query, End}
 use Rattle.trace_history.specs.declared.Totals.{Totals}
-use Rattle.trace_history.specs.Account.{Account, below, page_set, marks, shape_of}
-use Rattle.trace_history.specs.History.{queried, ended, History, Answers, account}
-use Rattle.trace_history.specs.Outcomes.{IsRead, puts}
+use Rattle.router_account.specs.Account.{Account, below, page_set, marks}
+use Rattle.trace_history.specs.History.{queried, ended, History, IsEventOf, account}
+use Rattle.trace_history.specs.Ledgers.{ledger}
 use Rattle.trace_history.specs.Report.{AreItemsOf, text_of, totals_of, with_answer, no_totals, pages_item, graph_items, answer_item}
+use Rattle.trace_history.specs.Routers.{count, rules_of, routers}
 use Rattle.trace_history.specs.Sights.{net_at}
-use Rattle.trace_history.proofs.Lists.{has_none}
 use Rattle.trace_replay.specs.declared.pages.OpenPage.{OpenPage}
-use Rattle.trace_replay.specs.declared.state.Receipt.{Receipt}
+use Rattle.trace_replay.specs.declared.state.PendingRecord.{PendingRecord}
 use Rattle.trace_replay.specs.declared.state.State.{State}
-use Rattle.trace_replay.specs.Pages.{shows}
+use Rattle.trace_replay.specs.Pages.{shown_by}
 use Rattle.trace_replay.specs.Printing.{entered_items, answer_items, first_page_item}
-use Rattle.trace_replay.specs.Standing.{IsOpenPage, Stands, AreFew, AreMore, Does, PrintsReceipts, Asks, Ends}
+use Rattle.trace_replay.specs.States.{IsOpenPage, IsPlain, Represents, AreFew, AreMore, Does, PrintsPending, Asks, Ends}
 use Rattle.trace_replay.proofs.Nets.{AgreeBelow, flood_same}
-use Rattle.trace_replay.proofs.Sights.{plain_query, item_is, hit_is, origins_is, missing_false}
-use Rattle.trace_replay.proofs.Steps.{none_left}
+use Rattle.trace_replay.proofs.Quiet.{plain_query, no_left, none_left_items, quiet_queried, quiet_ended}
+use Rattle.trace_replay.proofs.Sights.{item_is, hit_is, origins_is, missing_false}
 
 -- ---- the net that the code floods, and that of the definition
-
-abbrev pub itself : OpenPage → Sig → List Sig
-itself page sig = sig ∷ []
-
-abbrev pub never : OpenPage → Bool
-never page = false
 
 get_at : {X : Type 0} (xs : List X) (i : ℕ) (d : X) → i < length xs → slice_get xs i ≡ Some (get_or xs i d)
 get_at [] i d h = absurd (omega arith)
@@ -53,44 +48,48 @@ some_of : {X : Type 0} (xs : List X) (i : ℕ) → i < length xs → X
 some_of [] i h = absurd (omega arith)
 some_of (x ∷ xs) i h = x
 
-shows_is : (t : Trace) (r : ℕ) (a : Account) (p : OpenPage) (sig : Sig) → IsOpenPage t.rules r a p → shows p sig ≡ are_in (page_set t.rules a 0).members (marks t.rules r 0 sig)
+shows_is : (t : Trace) (r : ℕ) (a : Account) (p : OpenPage) (sig : Sig) → IsOpenPage t.rules r a p → (shown_by p).hit sig ≡ are_in (page_set t.rules a 0).members (marks t.rules r 0 sig)
 shows_is t r a p sig is =
     ap (λ (s : PageSet). are_in s.members (positions_by p.family sig)) is.page
     ∙ ap (λ f. are_in (page_set t.rules a 0).members (positions_by f sig)) is.family
     ∙ ap (λ ms. are_in (page_set t.rules a 0).members ms) (sym (marks_of-family (shape_of t.rules r) 0 sig))
 
-module _ (t : Trace) (history : History) (s : State) (stands : Stands t history s) (r0 : ℕ) (sig0 : Sig) (time : ℕ) (ends : (a b : ℕ) → IsTrue (is_linked t.topology.links a b) → b < length t.topology.names) where
-  in_pages : (r : ℕ) → r < length t.topology.names → r < length s.pages.items
-  in_pages r l = subst (λ (n : ℕ). r < n) (sym stands.count) l
+-- `history` ends with the query
+module _ (t : Trace) (before history : History) (s : State) (now : Represents t before s) (r0 : ℕ) (sig0 : Sig) (time : ℕ)
+    (same : (r : ℕ) → account (rules_of t) r history ≡ account (rules_of t) r before) (plain : (r : ℕ) → IsPlain (ledger (rules_of t) r history))
+    (ends : (a b : ℕ) → IsTrue (is_linked t.topology.links a b) → b < count t) where
+  in_pages : (r : ℕ) → r < count t → r < length s.pages.items
+  in_pages r l = subst (λ (n : ℕ). r < n) (sym now.size) l
 
   abbrev mine : Net
-  mine = net_of shows itself never s.pages.items t.topology
+  mine = net_of shown_by s.pages.items t.topology
 
   abbrev theirs : Net
-  theirs = net_at t.rules t.topology history (plain_query r0 sig0 time)
+  theirs = net_at (rules_of t) t.topology history (plain_query r0 sig0 time)
 
   read_at : {X : Type 0} (f : OpenPage → X) (z : X) (r : ℕ) (d : OpenPage) → r < length s.pages.items → unwrap_or (option_map f (slice_get s.pages.items r)) z ≡ f (get_or s.pages.items r d)
   read_at f z r d l = ap (λ (o : Option OpenPage). unwrap_or (option_map f o) z) (get_at s.pages.items r d l)
 
-  pub agree : AgreeBelow (length t.topology.names) mine theirs
+  pub agree : AgreeBelow (count t) mine theirs
   agree = record {
     hit = λ n h.
         let r = n.router.number in
         let l = in_pages r h in
         let d = some_of s.pages.items r l in
-        read_at (λ (p : OpenPage). shows p n.sig) false r d l
-        ∙ shows_is t r (account t.rules r history) (get_or s.pages.items r d) n.sig (stands.pages r d l)
-        ∙ sym (hit_is t history r0 sig0 time r (stands.plain r) n.sig);
+        read_at (λ (p : OpenPage). (shown_by p).hit n.sig) false r d l
+        ∙ shows_is t r (account (rules_of t) r before) (get_or s.pages.items r d) n.sig (now.pages r d l)
+        ∙ ap (λ (a : Account). are_in (page_set t.rules a 0).members (marks t.rules r 0 n.sig)) (sym (same r))
+        ∙ sym (hit_is t history r0 sig0 time r (plain r) n.sig);
     origins = λ n h x.
         let r = n.router.number in
         let l = in_pages r h in
-        let e = read_at (λ (p : OpenPage). itself p n.sig) [] r (some_of s.pages.items r l) l ∙ sym (origins_is t history r0 sig0 time r (stands.plain r) n.sig) in
+        let e = read_at (λ (p : OpenPage). (shown_by p).origins n.sig) [] r (some_of s.pages.items r l) l ∙ sym (origins_is t history r0 sig0 time r (plain r) n.sig) in
         let P : List Sig → Type 0 = λ ss. Contains ss x in
         ((λ i. subst P e i), (λ i. subst P (sym e) i));
     linked = λ r q. refl;
     missing = λ r h.
         let l = in_pages r h in
-        read_at never false r (some_of s.pages.items r l) l ∙ sym (missing_false t history r0 sig0 time r (stands.plain r));
+        read_at (λ (p : OpenPage). (shown_by p).missing) false r (some_of s.pages.items r l) l ∙ sym (missing_false t history r0 sig0 time r (plain r));
     ends = ends;
   }
 
@@ -104,10 +103,10 @@ fold_append : (xs ys : List Item) (z : Totals) → fold with_answer z (xs ++ ys)
 fold_append [] ys z = refl
 fold_append (x ∷ xs) ys z = fold_append xs ys (with_answer z x)
 
-pub totals_entered : (items : List Item) (receipts : List Receipt) → totals_of (items ++ entered_items receipts) ≡ totals_of items
-totals_entered items receipts =
-    fold_append items (entered_items receipts) no_totals
-    ∙ totals_kept (λ (receipt : Receipt). item.Entered receipt.line receipt.page) (λ z x. refl) receipts (totals_of items)
+pub totals_entered : (items : List Item) (pending : List PendingRecord) → totals_of (items ++ entered_items pending) ≡ totals_of items
+totals_entered items pending =
+    fold_append items (entered_items pending) no_totals
+    ∙ totals_kept (λ (entered : PendingRecord). item.Entered entered.line entered.page) (λ z x. refl) pending (totals_of items)
 
 graph_totals : (line : ℕ) (graph : Graph) (z : Totals) → fold with_answer z (graph_items line graph) ≡ with_answer z (answer_item line graph)
 graph_totals line graph z =
@@ -143,106 +142,93 @@ few_more before after n m l few more =
     let e = more.nodes in let f = more.edges in let g = more.unknown in let h = more.clear in
     record { nodes = omega arith; edges = omega arith; unknown = omega arith; clear = omega arith }
 
--- the receipts are printed
-pub stands_printed : (t : Trace) (history : History) (before after : State) → PrintsReceipts t before after → Stands t history before → Stands t history after
-stands_printed t history before after prints s =
-    let entered = entered_items before.receipts.items in
-    let P : List OpenPage → Type 0 = λ xs. (r : ℕ) (d : OpenPage) → r < length xs → IsOpenPage t.rules r (account t.rules r history) (get_or xs r d) in
+-- the pending records are printed
+pub represents_printed : (t : Trace) (history : History) (before after : State) → PrintsPending t before after → Represents t history before → Represents t history after
+represents_printed t history before after prints s =
+    let entered = entered_items before.pending.items in
+    let P : List OpenPage → Type 0 = λ xs. (r : ℕ) (d : OpenPage) → r < length xs → IsOpenPage t.rules r (account (rules_of t) r history) (get_or xs r d) in
     let A : List Item → Type 0 = λ items. AreItemsOf t history items in
     let F : Totals → Type 0 = λ totals. AreFew totals (length after.report.items) in
     let n : length after.report.items ≡ length before.report.items + length (text_of t entered) = ap length prints.report ∙ length-append before.report.items (text_of t entered) in
     record {
-      count = ap length prints.pages ∙ s.count;
+      size = ap length prints.pages ∙ s.size;
       pages = subst P (sym prints.pages) s.pages;
-      plain = s.plain;
-      sequential = s.sequential;
-      allowed = s.allowed;
-      unput = s.unput;
+      quiet = s.quiet;
       items = s.items ++ entered;
-      answered = subst A (sym (ap (λ (l : List Receipt). (s.items ++ entered) ++ entered_items l) prints.receipts ∙ append-nil (s.items ++ entered))) s.answered;
+      answered = subst A (sym (ap (λ (l : List PendingRecord). (s.items ++ entered) ++ entered_items l) prints.pending ∙ append-nil (s.items ++ entered))) s.answered;
       report = prints.report ∙ ap (λ l. l ++ text_of t entered) s.report ∙ sym (flat_map-append _ s.items entered);
-      totals = prints.totals ∙ s.totals ∙ sym (totals_entered s.items before.receipts.items);
+      totals = prints.totals ∙ s.totals ∙ sym (totals_entered s.items before.pending.items);
       few = subst F (sym prints.totals) (few_longer before.totals (length before.report.items) (length after.report.items) (omega (arith, n)) s.few);
     }
-
-none_read : (t : Trace) (history : History) (r0 : ℕ) (sig0 : Sig) (time : ℕ) → ((router : ℕ) → puts router history ≡ []) → IsRead t.rules history (plain_query r0 sig0 time)
-none_read t history r0 sig0 time unput = record {
-  unread_rises = tt;
-  unread = λ x h. absurd (has_none x h);
-  got_rises = tt;
-  got = λ router page. (
-    (λ h. absurd (has_none h.0 h.1)),
-    (λ h. let P : List ℕ → Type 0 = λ xs. Contains xs page in absurd (has_none page (subst P (unput router) h.0.put))),
-  );
-}
 
 map_same : {X Y : Type 0} (f g : X → Y) → ((x : X) → f x ≡ g x) → (xs : List X) → map f xs ≡ map g xs
 map_same f g e [] = refl
 map_same f g e (x ∷ xs) = ap (λ y. y ∷ map f xs) (e x) ∙ ap (λ ys. g x ∷ ys) (map_same f g e xs)
 
 pub does_query : (t : Trace) (line : Line) (router : RouterId) (packet : ℕ) (sig : Sig) (time : ℕ) (graph : Graph) (old mid new : State)
-    → line.what ≡ Query router packet time → slice_get t.sigs packet ≡ Some sig → router.number < length t.topology.names
-    → ((a b : ℕ) → IsTrue (is_linked t.topology.links a b) → b < length t.topology.names)
-    → IsFlood (net_of shows itself never old.pages.items t.topology) (record { router = router; sig = sig }) graph
-    → PrintsReceipts t old mid → Asks t line.number graph mid new → Does t line old new
-does_query t line router packet sig time graph old mid new is known exists ends flood prints asks history stands =
-    let asked = plain_query router.number sig time in
-    let W : What → Type 0 = λ w. Answers t.sigs w (queried asked []) in
-    let s = stands_printed t history old mid prints stands in
-    let answer = answer_items line.number (length t.topology.names) graph in
-    let P : List OpenPage → Type 0 = λ xs. (r : ℕ) (d : OpenPage) → r < length xs → IsOpenPage t.rules r (account t.rules r history) (get_or xs r d) in
+    → line.what ≡ Query router packet time → slice_get t.sigs packet ≡ Some sig → router.number < count t
+    → ((a b : ℕ) → IsTrue (is_linked t.topology.links a b) → b < count t)
+    → IsFlood (net_of shown_by old.pages.items t.topology) (record { router = router; sig = sig }) graph
+    → PrintsPending t old mid → Asks t line.number graph mid new → Does t line old new
+does_query t line router packet sig time graph old mid new is known exists ends flood prints asks history now =
+    let query = plain_query router.number sig time in
+    let W : What → Type 0 = λ w. IsEventOf t.sigs w (queried query no_left) in
+    let s = represents_printed t history old mid prints now in
+    let quiet = quiet_queried t history line.number now.quiet router.number sig time in
+    let after : History = record { line = line.number; event = queried query no_left } ∷ history in
+    let answer = answer_items line.number (count t) graph in
+    let P : List OpenPage → Type 0 = λ xs. (r : ℕ) (d : OpenPage) → r < length xs → IsOpenPage t.rules r (account (rules_of t) r history) (get_or xs r d) in
     let A : List Item → Type 0 = λ items. AreItemsOf t history items in
-    let none : new.receipts.items ≡ [] = asks.receipts ∙ prints.receipts in
-    let real = flood_same (length t.topology.names) _ _ (record { router = router; sig = sig }) graph exists (agree t history old stands router.number sig time ends) flood in
-    let printed = map_same (pages_item t history line.number asked) (first_page_item line.number) (λ r. item_is t history router.number sig time r (stands.plain r) line.number) (below (length t.topology.names)) in (
-      queried asked [],
+    let none : new.pending.items ≡ [] = asks.pending ∙ prints.pending in
+    let real = flood_same (count t) _ _ (record { router = router; sig = sig }) graph exists (agree t history after old now router.number sig time (λ r. refl) quiet.plain ends) flood in
+    let printed = map_same (pages_item t after line.number query) (first_page_item line.number) (λ r. item_is t after router.number sig time r (quiet.plain r) line.number) (below (count t)) in (
+      queried query no_left,
       subst W (sym is) (refl, known, refl),
       record {
-        count = ap length asks.pages ∙ s.count;
+        size = ap length asks.pages ∙ s.size;
         pages = subst P (sym asks.pages) s.pages;
-        plain = s.plain;
-        sequential = (s.sequential, tt);
-        allowed = (s.allowed, (none_read t history router.number sig time s.unput, none_left t history _));
-        unput = s.unput;
+        quiet = quiet;
         items = s.items ++ answer;
         answered = (
           s.items,
           answer,
-          subst A (ap (λ (l : List Receipt). s.items ++ entered_items l) prints.receipts ∙ append-nil s.items) s.answered,
-          (graph, real, ap (λ (l : List Item). item.Query line.number ∷ l ++ graph_items line.number graph) (sym printed)),
-          ap (λ (l : List Receipt). (s.items ++ answer) ++ entered_items l) none ∙ append-nil (s.items ++ answer),
+          subst A (ap (λ (l : List PendingRecord). s.items ++ entered_items l) prints.pending ∙ append-nil s.items) s.answered,
+          (
+            graph,
+            real,
+            ap (λ (l : List Item). item.Query line.number ∷ l ++ graph_items line.number graph) (sym printed)
+                ∙ ap (λ (l : List Item). item.Query line.number ∷ l ++ map (pages_item t after line.number query) (routers t) ++ graph_items line.number graph) (sym (none_left_items line.number (routers t))),
+          ),
+          ap (λ (l : List PendingRecord). (s.items ++ answer) ++ entered_items l) none ∙ append-nil (s.items ++ answer),
         );
         report = asks.report ∙ ap (λ l. l ++ text_of t answer) s.report ∙ sym (flat_map-append _ s.items answer);
-        totals = asks.totals ∙ ap (λ (z : Totals). with_answer z (answer_item line.number graph)) s.totals ∙ sym (answer_totals line.number (length t.topology.names) graph s.items);
+        totals = asks.totals ∙ ap (λ (z : Totals). with_answer z (answer_item line.number graph)) s.totals ∙ sym (answer_totals line.number (count t) graph s.items);
         few = few_more mid.totals new.totals (length mid.report.items) (length new.report.items) asks.longer s.few asks.more;
       },
     )
 
-pub does_end : (t : Trace) (line : Line) (old mid new : State) → line.what ≡ End → PrintsReceipts t old mid → Ends t line.number mid new → Does t line old new
-does_end t line old mid new is prints ends history stands =
-    let W : What → Type 0 = λ w. Answers t.sigs w (ended []) in
-    let s = stands_printed t history old mid prints stands in
+pub does_end : (t : Trace) (line : Line) (old mid new : State) → line.what ≡ End → PrintsPending t old mid → Ends t line.number mid new → Does t line old new
+does_end t line old mid new is prints ends history now =
+    let W : What → Type 0 = λ w. IsEventOf t.sigs w (ended no_left) in
+    let s = represents_printed t history old mid prints now in
     let last = item.End line.number ∷ [] in
-    let P : List OpenPage → Type 0 = λ xs. (r : ℕ) (d : OpenPage) → r < length xs → IsOpenPage t.rules r (account t.rules r history) (get_or xs r d) in
+    let P : List OpenPage → Type 0 = λ xs. (r : ℕ) (d : OpenPage) → r < length xs → IsOpenPage t.rules r (account (rules_of t) r history) (get_or xs r d) in
     let A : List Item → Type 0 = λ items. AreItemsOf t history items in
     let F : Totals → Type 0 = λ totals. AreFew totals (length new.report.items) in
     let n : length new.report.items ≡ length mid.report.items + length (text_of t last) = ap length ends.report ∙ length-append mid.report.items (text_of t last) in (
-      ended [],
+      ended no_left,
       subst W (sym is) tt,
       record {
-        count = ap length ends.pages ∙ s.count;
+        size = ap length ends.pages ∙ s.size;
         pages = subst P (sym ends.pages) s.pages;
-        plain = s.plain;
-        sequential = (s.sequential, tt);
-        allowed = (s.allowed, none_left t history _);
-        unput = s.unput;
+        quiet = quiet_ended t history line.number now.quiet;
         items = s.items ++ last;
         answered = (
           s.items,
           last,
-          subst A (ap (λ (l : List Receipt). s.items ++ entered_items l) prints.receipts ∙ append-nil s.items) s.answered,
-          refl,
-          ap (λ (l : List Receipt). (s.items ++ last) ++ entered_items l) (ends.receipts ∙ prints.receipts) ∙ append-nil (s.items ++ last),
+          subst A (ap (λ (l : List PendingRecord). s.items ++ entered_items l) prints.pending ∙ append-nil s.items) s.answered,
+          ap (λ (l : List Item). item.End line.number ∷ l) (sym (none_left_items line.number (routers t))),
+          ap (λ (l : List PendingRecord). (s.items ++ last) ++ entered_items l) (ends.pending ∙ prints.pending) ∙ append-nil (s.items ++ last),
         );
         report = ends.report ∙ ap (λ l. l ++ text_of t last) s.report ∙ sym (flat_map-append _ s.items last);
         totals = ends.totals ∙ s.totals ∙ sym (fold_append s.items last no_totals);

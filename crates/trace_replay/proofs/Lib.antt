@@ -1,7 +1,7 @@
 pub mod Asked
-pub mod Marks
 pub mod Named
 pub mod Nets
+pub mod Quiet
 pub mod Sights
 pub mod Starts
 pub mod Steps

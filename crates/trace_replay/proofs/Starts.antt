@@ -5,34 +5,42 @@ use Rattle.std.specs.declared.option.Option.{Option}
 use Rattle.std.specs.List.{Contains, All, range_with_len}
 use Rattle.std.proofs.lemmas.List.{take_more}
 use Rattle.spie_base.specs.declared.Rules.{Rules}
+use Rattle.spie_base.specs.Shapes.{shape_of}
+use Rattle.hash_family.specs.Entries.{is_marked}
 use Rattle.bloom_page.specs.Sets.{PageSet, set_of}
 use Rattle.report_text.specs.declared.Item.{Item}
 use Rattle.report_text.specs.declared.Item.TheVariants.{Head}
 use Rattle.report_text.specs.Report.{item_text}
 use Rattle.trace_format.specs.declared.Line.{Line}
 use Rattle.trace_format.specs.declared.Trace.{Trace}
-use Rattle.trace_history.specs.Account.{Account, page_set, is_marked}
+use Rattle.router_account.specs.Account.{Account, page_set}
+use Rattle.router_account.specs.Records.{Holds}
+use Rattle.router_account.specs.Ledger.{Ledger}
+use Rattle.page_shelf.specs.Shelves.{Contents}
 use Rattle.trace_history.specs.History.{account}
+use Rattle.trace_history.specs.Ledgers.{ledger}
+use Rattle.trace_history.specs.Routers.{count, rules_of}
 use Rattle.trace_history.specs.declared.Totals.{Totals}
-use Rattle.trace_history.specs.Replay.{IsReplayed}
+use Rattle.trace_history.specs.Replay.{IsReplayed, no_shelf}
 use Rattle.trace_history.specs.Report.{AreItemsOf, no_totals}
-use Rattle.trace_history.proofs.Lists.{has_none, has_cases}
+use Rattle.spie_base.proofs.Membership.{has_none, has_cases}
 use Rattle.trace_replay.specs.Built.{is_built, first_unbuilt_of}
-use Rattle.trace_replay.proofs.Asked.{stands_printed}
+use Rattle.trace_replay.proofs.Asked.{represents_printed}
+use Rattle.trace_replay.proofs.Quiet.{quiet_first}
 use Rattle.trace_replay.proofs.Named.{all_of}
 use Rattle.trace_replay.specs.declared.pages.OpenPage.{OpenPage}
 use Rattle.trace_replay.specs.declared.state.State.{State}
-use Rattle.trace_replay.specs.Standing.{IsEmptyPage, AreFew, Stands, Does, HasDone, PrintsReceipts}
+use Rattle.trace_replay.specs.States.{IsEmptyPage, IsPlain, AreFew, Represents, Does, HasDone, PrintsPending}
 use Rattle.trace_replay.specs.Printing.{entered_items}
 
 -- one line more
 pub done_more : (t : Trace) (lines : List Line) (i : ℕ) (d : Line) (before after : State) → i < length lines → HasDone t (take i lines) before → Does t (get_or lines i d) before after → HasDone t (take (i + 1) lines) after
 done_more t lines i d before after within done does =
-    let next = does done.history done.stands in
+    let next = does done.history done.represents in
     record {
       history = record { line = (get_or lines i d).number; event = next.0 } ∷ done.history;
       lines_are = (take i lines, get_or lines i d, take_more lines i d within, refl, next.1, done.lines_are);
-      stands = next.2;
+      represents = next.2;
     }
 
 filter_none : (xs : List ℕ) → filter (λ p. false) xs ≡ []
@@ -43,24 +51,21 @@ filter_none (x ∷ xs) = filter_none xs
 empty_set : (rules : Rules) (a : Account) → a.entries ≡ [] → page_set rules a 0 ≡ record { n = rules.n; members = [] }
 unfolding set_of
 empty_set rules a e =
-    ap (λ entries. set_of rules.n (is_marked rules a.router 0 entries)) e
+    ap (λ entries. set_of rules.n (is_marked (shape_of rules a.router) entries 0)) e
     ∙ ap (λ members. let s : PageSet = record { n = rules.n; members = members } in s) (filter_none (range_with_len 0 (2 ^ rules.n)))
 
-pub stands_started : (t : Trace) (s : State) → length s.pages.items ≡ length t.topology.names
-    → ((router : ℕ) (d : OpenPage) → router < length t.topology.names → IsEmptyPage t.rules router (get_or s.pages.items router d))
-    → s.receipts.items ≡ [] → s.report.items ≡ item_text t.topology.names Head → s.totals ≡ no_totals → Stands t [] s
-stands_started t s count empty none report totals =
+pub represents_started : (t : Trace) (s : State) → length s.pages.items ≡ count t
+    → ((router : ℕ) (d : OpenPage) → router < count t → IsEmptyPage t.rules router (get_or s.pages.items router d))
+    → s.pending.items ≡ [] → s.report.items ≡ item_text t.topology.names Head → s.totals ≡ no_totals → Represents t [] s
+represents_started t s size empty none report totals =
     record {
-      count = count;
+      size = size;
       pages = λ router d l.
-          let is = empty router d (subst (λ (n : ℕ). router < n) count l) in
-          record { family = is.family; page = is.page ∙ sym (empty_set t.rules (account t.rules router []) refl) };
-      plain = λ router. record { closings = refl; rows = refl };
-      sequential = tt;
-      allowed = tt;
-      unput = λ router. refl;
+          let is = empty router d (subst (λ (n : ℕ). router < n) size l) in
+          record { family = is.family; page = is.page ∙ sym (empty_set t.rules (account (rules_of t) router []) refl) };
+      quiet = quiet_first t;
       items = Head ∷ [];
-      answered = ap (λ receipts. (Head ∷ []) ++ entered_items receipts) none;
+      answered = ap (λ pending. (Head ∷ []) ++ entered_items pending) none;
       report = report ∙ sym (append-nil (item_text t.topology.names Head));
       totals = totals;
       few = let F : Totals → Type 0 = λ z. AreFew z (length s.report.items) in
@@ -83,18 +88,38 @@ built_each (x ∷ xs) e line h =
 pub all_built : (lines : List Line) → first_unbuilt_of lines ≡ None → All (λ line. is_built line.what ≡ true) lines
 all_built lines e = all_of (λ (line : Line). is_built line.what ≡ true) lines (built_each lines e)
 
--- a replay of all lines, whose receipts are printed
-pub replayed : (t : Trace) (done after : State) (text : List ℕ) → HasDone t t.lines done → PrintsReceipts t done after → text ≡ after.report.items → IsReplayed t text after.totals
+-- a shelf holds nothing of a router that put nothing
+none_held : (rules : Rules) (contents : Contents) (l : Ledger) → IsPlain l → Holds rules contents l
+none_held rules contents l plain = record {
+  put = λ page part h live. let P : List ℕ → Type 0 = λ xs. Contains xs page in absurd (has_none page (subst P plain.put_before h));
+  gone = λ page part old h left. let P : List ℕ → Type 0 = λ xs. Contains xs page in absurd (has_none page (subst P plain.covered_before h));
+}
+
+-- a replay of all lines, whose pending records are printed
+pub replayed : (t : Trace) (done after : State) (text : List ℕ) → HasDone t t.lines done → PrintsPending t done after → text ≡ after.report.items → IsReplayed t text after.totals no_shelf
 replayed t done after text h prints e =
-    let s = stands_printed t h.history done after prints h.stands in
+    let s = represents_printed t h.history done after prints h.represents in
+    let q = s.quiet in
     let A : List Item → Type 0 = λ items. AreItemsOf t h.history items in
     record {
       history = h.history;
-      items = s.items;
-      lines = h.lines_are;
-      sequential = s.sequential;
-      allowed = s.allowed;
-      answered = subst A (ap (λ receipts. s.items ++ entered_items receipts) prints.receipts ∙ append-nil s.items) s.answered;
-      text_is = e ∙ s.report;
-      totals_are = s.totals;
+      sequential = q.sequential;
+      watched = q.watched;
+      done = record {
+        lines_are = h.lines_are;
+        allowed = q.allowed;
+        same_digests = q.same_digests;
+        shelf = record {
+          paid = (let n = q.faultless in omega (arith, n));
+          all_true = λ tells. q.all_true;
+          only_faults = λ tells. q.only_faults;
+          holds = λ tells r l. none_held t.rules _ (ledger (rules_of t) r h.history) (q.plain r);
+        };
+      };
+      report = record {
+        items = s.items;
+        answered = subst A (ap (λ pending. s.items ++ entered_items pending) prints.pending ∙ append-nil s.items) s.answered;
+        text_is = e ∙ s.report;
+        totals_are = s.totals;
+      };
     }

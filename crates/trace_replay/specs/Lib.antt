@@ -1,4 +1,4 @@
 pub mod Built
 pub mod Pages
 pub mod Printing
-pub mod Standing
+pub mod States

@@ -1,7 +1,8 @@
 -- A router's open page.
-use Rattle.std.specs.Prelude.{Bool, ◌≡◌}
+use Rattle.std.specs.Prelude.{◌≡◌, ◌∷◌, [], false}
 use Rattle.bloom_page.specs.Sets.{are_in, united}
 use Rattle.hash_family.specs.Positions.{positions_by}
+use Rattle.spie_base.specs.Shown.{Shown}
 use Rattle.spie_base.specs.declared.Sig.{Sig}
 use Rattle.trace_replay.specs.declared.pages.OpenPage.{OpenPage}
 
@@ -10,6 +11,10 @@ pub record Records (before after : OpenPage) (sig : Sig) : Type 0 where
   pub page : after.page ≡ united before.page (positions_by before.family sig)
   pub family : after.family ≡ before.family
 
--- whether all marks of a signature are set
-abbrev pub shows : OpenPage → Sig → Bool
-shows page sig = are_in page.page.members (positions_by page.family sig)
+-- a hit is where all marks of a signature are set; no transform is known, and no page is missing
+abbrev pub shown_by : OpenPage → Shown
+shown_by page = record {
+  hit = λ sig. are_in page.page.members (positions_by page.family sig);
+  origins = λ sig. sig ∷ [];
+  missing = false;
+}

@@ -8,13 +8,13 @@ use Rattle.reverse_flood.specs.declared.Graph.{Graph}
 use Rattle.report_text.specs.declared.Item.{Item}
 use Rattle.report_text.specs.declared.Item.TheVariants.{Entered, Pages, Query}
 use Rattle.report_text.specs.Report.{IsNamed}
-use Rattle.trace_history.specs.Account.{below}
+use Rattle.router_account.specs.Account.{below}
 use Rattle.trace_history.specs.Report.{graph_items}
-use Rattle.trace_replay.specs.declared.state.Receipt.{Receipt}
+use Rattle.trace_replay.specs.declared.state.PendingRecord.{PendingRecord}
 
--- the items of receipts
-abbrev pub entered_items : List Receipt → List Item
-entered_items receipts = map (λ receipt. Entered receipt.line receipt.page) receipts
+-- the items of records that are pending
+abbrev pub entered_items : List PendingRecord → List Item
+entered_items pending = map (λ entered. Entered entered.line entered.page) pending
 
 -- a pair's router exists
 abbrev pub IsNodeNamed : List (List ℕ) → Node → Type 0

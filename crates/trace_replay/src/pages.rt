@@ -1,8 +1,7 @@
 // The open page of a router.
-ghost use Rattle.std.specs.Prelude.{◌≡◌, ◌∷◌, [], false, IfOk};
+ghost use Rattle.std.specs.Prelude.{◌≡◌, [], IfOk};
 ghost use Rattle.hash_family.specs.Positions.{family_of};
-ghost use Rattle.trace_history.specs.Account.{shape_of};
-ghost use Rattle.trace_format.specs.Spelling.{IsFront};
+ghost use Rattle.spie_base.specs.Shapes.{shape_of, AreInRange};
 
 use bloom_page::Page;
 use hash_family::{Family, page_seed};
@@ -22,7 +21,7 @@ impl OpenPage {
 
     /// An empty page.
     pub fn open(alloc: Global, rules: &Rules, router: u32) -> Result<OpenPage, NoMemory>
-        requires { IsFront rules.now }
+        requires { AreInRange rules.now.k rules.now.n }
         ensures family { IfOk result (λ opened. opened.family ≡ family_of (shape_of rules.now router) 0) }
         ensures empty { IfOk result (λ opened. opened.page ≡ record { n = rules.now.n; members = [] }) }
     {
@@ -47,13 +46,9 @@ impl OpenPage {
 }
 
 impl Sighting for OpenPage {
-    ghost use Rattle.trace_replay.specs.Pages.{shows};
+    ghost use Rattle.trace_replay.specs.Pages.{shown_by};
 
-    ghost hit = { shows };
-
-    ghost origins = { λ page sig. sig ∷ [] };
-
-    ghost has_missing = { λ page. false };
+    ghost shown = { shown_by };
 
     fn hit(&self, sig: &Sig) -> bool {
         self.page.has(&self.family.positions(sig))

@@ -8,24 +8,24 @@ ghost use Rattle.report_text.specs.Report.{item_text, IsNamed};
 ghost use Rattle.trace_history.specs.Report.{answer_item, graph_items};
 ghost use Rattle.trace_replay.specs.Printing.{entered_items, IsNodeNamed, IsEdgeNamed, IsGraphNamed};
 
-use crate::state::Receipt;
+use crate::state::PendingRecord;
 use report_text::{Item, push_item};
 use reverse_flood::{Edge, Graph, Node};
 use spie_base::NoMemory;
 use topology::Topology;
 
-/// Appends the lines of receipts.
-pub fn push_receipts(
+/// Appends the lines of records that are pending.
+pub fn push_pending(
     out: &mut Vec<u8>,
     topology: &Topology,
-    receipts: &[Receipt],
+    pending: &[PendingRecord],
 ) -> Result<(), NoMemory>
-    ensures { OnOk result (out.new.items ≡ out.old.items ++ flat_map (item_text topology.now.names) (entered_items receipts.now)) }
+    ensures { OnOk result (out.new.items ≡ out.old.items ++ flat_map (item_text topology.now.names) (entered_items pending.now)) }
 {
-    for receipt in receipts {
+    for entered in pending {
         let item = Item::Entered {
-            line: receipt.line,
-            page: receipt.page,
+            line: entered.line,
+            page: entered.page,
         };
         push_item(out, topology, &item)?;
     }

@@ -2,10 +2,10 @@
 ghost use Rattle.std.specs.Prelude.{◌≡◌, ◌++◌, IfOk, OnOk, length, map};
 ghost use Rattle.std.specs.List.{flat_map};
 ghost use Rattle.report_text.specs.Report.{item_text};
-ghost use Rattle.trace_history.specs.Account.{below};
+ghost use Rattle.router_account.specs.Account.{below};
 ghost use Rattle.trace_history.specs.Report.{answer_item, with_answer};
 ghost use Rattle.trace_replay.specs.Printing.{first_page_item, IsGraphNamed, answer_items};
-ghost use Rattle.trace_replay.specs.Standing.{AreMore, IsRoomy};
+ghost use Rattle.trace_replay.specs.States.{AreMore, IsRoomy};
 
 use crate::printing::push_graph;
 use report_text::{Item, push_item};

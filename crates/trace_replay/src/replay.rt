@@ -2,18 +2,19 @@
 ghost use Rattle.std.specs.Prelude.{◌≡◌, ◌<◌, ℕ, [], true, None, IfOk, OnOk, length, slice_get, slice_index_or, Some};
 ghost use Rattle.std.specs.List.{All};
 ghost use Rattle.trace_format.specs.declared.What.TheVariants.{Fwd, Query, End};
-ghost use Rattle.trace_history.specs.Replay.{IsReplayed};
+ghost use Rattle.topology.specs.Layout.{IsSound as IsSoundLayout};
+ghost use Rattle.trace_history.specs.Replay.{IsReplayed, no_shelf};
 ghost use Rattle.trace_replay.specs.Built.{is_built, first_unbuilt_of};
 ghost use Rattle.trace_replay.specs.Printing.{IsGraphNamed};
 ghost use Rattle.trace_format.specs.Sound.{IsSound, IsWithin};
-ghost use Rattle.trace_format.specs.Spelling.{IsFront};
-ghost use Rattle.trace_replay.specs.Standing.{IsStanding, Does, HasDone, Stands, IsOpenPage, PrintsReceipts, Asks, Ends, IsRoomy, IsEmptyPage};
+ghost use Rattle.spie_base.specs.Shapes.{AreInRange};
+ghost use Rattle.trace_replay.specs.States.{IsReplaying, Does, HasDone, Represents, PrintsPending, Asks, Ends, IsRoomy, IsEmptyPage};
 ghost use Rattle.trace_replay.specs.declared.pages.OpenPage.{OpenPage};
 
 use crate::pages::OpenPage;
-use crate::printing::push_receipts;
+use crate::printing::push_pending;
 use crate::queries::{push_answer_to, with_graph};
-use crate::state::{Receipt, State};
+use crate::state::{PendingRecord, State};
 use report_text::{Item, push_item};
 use reverse_flood::{Graph, Node, flood};
 use spie_base::{List, NoMemory, PageNo, RouterId, Rules, Sig};
@@ -42,7 +43,7 @@ fn sig_of(trace: &Trace, packet: u32) -> Sig
     trace.sigs.items()[packet as usize]
 }
 
-// A record: its receipt is kept for the next barrier, and its marks are set.
+// A record: it is printed at the next barrier, and its marks are set.
 fn forward(
     trace: &Trace,
     line: &Line,
@@ -53,11 +54,11 @@ fn forward(
     requires is { line.now.what ≡ Fwd router packet }
     requires exists { router.number < length trace.now.topology.names }
     requires known { packet < length trace.now.sigs }
-    requires stands { IsStanding trace.now state.old }
+    requires stands { IsReplaying trace.now state.old }
     ensures { OnOk result (Does trace.now line.now state.old state.new) }
 {
     let sig = sig_of(trace, packet);
-    state.receipts.push(Receipt {
+    state.pending.push(PendingRecord {
         line: line.number,
         page: PageNo { number: 0 },
     })?;
@@ -65,12 +66,12 @@ fn forward(
     Ok(())
 }
 
-// A barrier: the receipts since the last one are printed.
-fn print_receipts(trace: &Trace, state: &mut State) -> Result<(), NoMemory>
-    ensures { OnOk result (PrintsReceipts trace.now state.old state.new) }
+// A barrier: the records since the last one are printed.
+fn print_pending(trace: &Trace, state: &mut State) -> Result<(), NoMemory>
+    ensures { OnOk result (PrintsPending trace.now state.old state.new) }
 {
-    push_receipts(&mut state.report, &trace.topology, &state.receipts)?;
-    state.receipts.clear();
+    push_pending(&mut state.report, &trace.topology, &state.pending)?;
+    state.pending.clear();
     Ok(())
 }
 
@@ -103,14 +104,13 @@ fn query(
     requires is { line.now.what ≡ Query router packet time }
     requires exists { router.number < length trace.now.topology.names }
     requires known { packet < length trace.now.sigs }
-    requires stands { IsStanding trace.now state.old }
+    requires links { IsSoundLayout trace.now.topology }
+    requires stands { IsReplaying trace.now state.old }
     ensures { OnOk result (Does trace.now line.now state.old state.new) }
 {
     let sig = sig_of(trace, packet);
-    // Its contract says that links join routers that exist, so that each pair has a name to print.
-    let _routers = trace.topology.routers();
     let graph = flood(alloc, &trace.topology, &state.pages, &Node { router, sig })?;
-    print_receipts(trace, state)?;
+    print_pending(trace, state)?;
     answer(alloc, trace, line.number, &graph, state)?;
     Ok(())
 }
@@ -125,10 +125,10 @@ fn close(trace: &Trace, line: u64, state: &mut State) -> Result<(), NoMemory>
 
 fn end(trace: &Trace, line: &Line, state: &mut State) -> Result<(), NoMemory>
     requires is { line.now.what ≡ End }
-    requires stands { IsStanding trace.now state.old }
+    requires stands { IsReplaying trace.now state.old }
     ensures { OnOk result (Does trace.now line.now state.old state.new) }
 {
-    print_receipts(trace, state)?;
+    print_pending(trace, state)?;
     close(trace, line.number, state)?;
     Ok(())
 }
@@ -136,7 +136,8 @@ fn end(trace: &Trace, line: &Line, state: &mut State) -> Result<(), NoMemory>
 fn step(alloc: Global, trace: &Trace, line: &Line, state: &mut State) -> Result<(), NoMemory>
     requires built { is_built line.now.what ≡ true }
     requires within { IsWithin (length trace.now.topology.names) (length trace.now.sigs) line.now.what }
-    requires stands { IsStanding trace.now state.old }
+    requires links { IsSoundLayout trace.now.topology }
+    requires stands { IsReplaying trace.now state.old }
     ensures { OnOk result (Does trace.now line.now state.old state.new) }
 {
     match line.what {
@@ -159,7 +160,8 @@ fn all_lines(
 ) -> Result<(), NoMemory>
     requires built { All (λ line. is_built line.what ≡ true) lines.now }
     requires within { All (λ line. IsWithin (length trace.now.topology.names) (length trace.now.sigs) line.what) lines.now }
-    requires begins { Stands trace.now [] state.old }
+    requires links { IsSoundLayout trace.now.topology }
+    requires begins { Represents trace.now [] state.old }
     ensures { OnOk result (HasDone trace.now lines.now state.new) }
 {
     for line in lines {
@@ -169,7 +171,7 @@ fn all_lines(
 }
 
 fn open_pages(alloc: Global, rules: &Rules, routers: u32) -> Result<Vec<OpenPage>, NoMemory>
-    requires { IsFront rules.now }
+    requires { AreInRange rules.now.k rules.now.n }
     ensures count { IfOk result (λ pages. length pages.items ≡ routers) }
     ensures empty { IfOk result (λ pages. (router : ℕ) (d : OpenPage) → router < routers → IsEmptyPage rules.now router (slice_index_or pages.items router d)) }
 {
@@ -181,15 +183,15 @@ fn open_pages(alloc: Global, rules: &Rules, routers: u32) -> Result<Vec<OpenPage
 }
 
 fn started(alloc: Global, trace: &Trace) -> Result<State, NoMemory>
-    requires { IsFront trace.now.rules }
-    ensures { IfOk result (λ state. Stands trace.now [] state) }
+    requires { AreInRange trace.now.rules.k trace.now.rules.n }
+    ensures { IfOk result (λ state. Represents trace.now [] state) }
 {
     let pages = open_pages(alloc, &trace.rules, trace.topology.routers())?;
     let mut report = Vec::new(alloc);
     push_item(&mut report, &trace.topology, &Item::Head)?;
     Ok(State {
         pages,
-        receipts: Vec::new(alloc),
+        pending: Vec::new(alloc),
         report,
         totals: NO_TOTALS,
     })
@@ -205,11 +207,11 @@ fn started(alloc: Global, trace: &Trace) -> Result<State, NoMemory>
 pub fn replay_alone(alloc: Global, trace: &Trace) -> Result<Replayed, NoMemory>
     requires sound { IsSound trace.now }
     requires built { first_unbuilt_of trace.now.lines ≡ None }
-    ensures { IfOk result (λ replayed. IsReplayed trace.now replayed.report replayed.totals) }
+    ensures { IfOk result (λ replayed. IsReplayed trace.now replayed.report replayed.totals no_shelf) }
 {
     let mut state = started(alloc, trace)?;
     all_lines(alloc, trace, trace.lines.items(), &mut state)?;
-    print_receipts(trace, &mut state)?;
+    print_pending(trace, &mut state)?;
     Ok(Replayed {
         report: List::of(state.report),
         totals: state.totals,

@@ -1,7 +1,7 @@
 use Rattle.std.proofs.Common.{◌≡◌, ◌++◌, map}
 use Rattle.std.specs.List.{flat_map}
 use Rattle.report_text.specs.Report.{item_text}
-use Rattle.trace_history.specs.Account.{below}
+use Rattle.router_account.specs.Account.{below}
 use Rattle.trace_replay.specs.Printing.{first_page_item}
 use Rattle.trace_replay.proofs.queries.push_pages.Given as goal
 

@@ -1,5 +1,5 @@
 use Rattle.std.proofs.Common.{take}
-use Rattle.trace_replay.specs.Standing.{HasDone}
+use Rattle.trace_replay.specs.States.{HasDone}
 use Rattle.trace_replay.proofs.replay.all_lines.Given as goal
 
 abbrev pub invariant-loop-line : goal.invariant-loop-line

@@ -5,7 +5,7 @@ use Rattle.trace_replay.proofs.replay.answer.Goals as goal
 pub returns : goal.returns
 returns c = record {
   pages = refl;
-  receipts = refl;
+  pending = refl;
   report = c.in_ok-push_answer_to.ensures;
   totals = c.with_graph-state.ensures.exact;
   more = c.with_graph-state.ensures.more;

@@ -1,6 +1,6 @@
 use Rattle.std.proofs.Common.{◌≡◌, ℕ, ◌<◌, length, get_or}
 use Rattle.trace_replay.specs.declared.pages.OpenPage.{OpenPage}
-use Rattle.trace_replay.specs.Standing.{IsEmptyPage}
+use Rattle.trace_replay.specs.States.{IsEmptyPage}
 use Rattle.trace_replay.proofs.replay.open_pages.Given as goal
 
 abbrev pub invariant-loop-router : goal.invariant-loop-router

@@ -1,0 +1,7 @@
+pub mod Account
+pub mod Barriers
+pub mod Ledger
+pub mod Records
+pub mod Shelves
+pub mod Sights
+pub mod Watches
