@@ -1,10 +1,10 @@
--- What a run's answers tell of its input and output.
+-- What a run's answers tell of its input and output, exit by exit.
 use Rattle.std.proofs.Common.{ℕ, ◌≡◌, ◌+◌, ◌<◌, List, [], ◌∷◌, ◌++◌, ◌∙◌, inl, inr, ⊎_elim, length, refl, sym, ap, subst, arith, lit<}
-use Rattle.std.specs.Prelude.{codes}
+use Rattle.std.specs.Prelude.{codes, Some, None, IsSome}
 use Rattle.std.specs.declared.option.Option.{Option}
 use Rattle.std.specs.Io.KnownBytes.{Consumes, Appends, IsAtEnd}
 use Rattle.std.proofs.lemmas.Fmt.{decimal_digit}
-use Rattle.spie_base.specs.Transfer.{AppendsFront, TookCount}
+use Rattle.spie_base.specs.Transfer.{TookCount}
 use Rattle.spie_base.specs.declared.Status.{Status}
 use Rattle.spie_base.specs.declared.Status.TheVariants as status
 use Rattle.trace_format.specs.Fault.{too_long}
@@ -14,7 +14,8 @@ use Rattle.trace_format.specs.declared.Trace.{Trace}
 use Rattle.spie_run.specs.Refusals.{fault_text}
 use Rattle.spie_run.specs.declared.words.Command.{Command}
 use Rattle.spie_run.specs.declared.words.Command.TheVariants.{Replay, Play}
-use Rattle.spie_run.specs.Run.{Outputs, Refuses, Answers, AnswersTrace, IsReadWhole, IsReadOut, Delivered}
+use Rattle.spie_run.specs.Words.{command_of}
+use Rattle.spie_run.specs.Run.{Outputs, Refuses, Answers, AnswersTrace, Told, Views, IsReadOut, Delivered, IsDone, IsRefused, IsCutShort, IsFaultless, HasFailed, Ran}
 
 -- the answer to a trace is the answer to the text that it was read from
 pub answers_text : (s : Status) (text output : List ℕ) (trace : Trace) → IsTrace text trace → AnswersTrace s trace output → Answers Replay s text output
@@ -25,45 +26,6 @@ answers_text status.Usage text output trace read h = absurd h
 answers_text status.ReadFault text output trace read h = absurd h
 answers_text status.WriteFault text output trace read h = absurd h
 answers_text status.NoMemory text output trace read h = absurd h
-
-no_fault_word : status.WriteFault ≡ status.TraceRefused → ⊥
-no_fault_word e = cc
-
-no_fault_done : status.WriteFault ≡ status.Done → ⊥
-no_fault_done e = cc
-
--- a text that is written whole
-wrote_whole : (want answer : Status) (w0 w1 : Option (List ℕ)) (text : List ℕ) (f n : ℕ) → Delivered want answer w0 w1 text f n → (answer ≡ status.WriteFault → ⊥) → (want ≡ answer) × Appends w0 w1 text
-wrote_whole want answer w0 w1 text f n d other =
-    ⊎_elim (λ whole. (sym whole.0, whole.1)) (λ front. absurd (other front.0)) d.outcome
-
--- a front of a text stands
-wrote_front : (want answer : Status) (w0 w1 : Option (List ℕ)) (text : List ℕ) (f n : ℕ) → Delivered want answer w0 w1 text f n → (want ≡ status.WriteFault → ⊥) → answer ≡ status.WriteFault → AppendsFront w0 w1 text
-wrote_front want answer w0 w1 text f n d other e =
-    ⊎_elim (λ whole. absurd (other (sym whole.0 ∙ e))) (λ front. front.1) d.outcome
-
-pub answered_done : (command : Command) (before after : Option (List ℕ)) (text output : List ℕ) (want answer : Status) (w0 w1 : Option (List ℕ)) (f n : ℕ)
-    → Consumes before after text → IsAtEnd after → Answers command want text output → Delivered want answer w0 w1 output f n → answer ≡ status.Done
-    → (input out : List ℕ) × IsReadWhole before after input × Outputs command input out × Appends w0 w1 out
-answered_done command before after text output want answer w0 w1 f n took end answers d e =
-    let wrote = wrote_whole want answer w0 w1 output f n d (λ same. no_fault_done (sym same ∙ e)) in
-    let A : Status → Type 0 = λ s. Answers command s text output in
-    (text, output, (took, end), subst A (wrote.0 ∙ e) answers, wrote.1)
-
-pub answered_refusal : (command : Command) (before after : Option (List ℕ)) (text output : List ℕ) (want answer : Status) (w0 w1 : Option (List ℕ)) (f n : ℕ)
-    → Consumes before after text → IsAtEnd after → Answers command want text output → Delivered want answer w0 w1 output f n → answer ≡ status.TraceRefused
-    → (input out : List ℕ) × IsReadOut before after input × Refuses command input out × Appends w0 w1 out
-answered_refusal command before after text output want answer w0 w1 f n took end answers d e =
-    let wrote = wrote_whole want answer w0 w1 output f n d (λ same. no_fault_word (sym same ∙ e)) in
-    let A : Status → Type 0 = λ s. Answers command s text output in
-    (text, output, (took, inl end), subst A (wrote.0 ∙ e) answers, wrote.1)
-
-pub answered_front : (command : Command) (before after : Option (List ℕ)) (text output : List ℕ) (want answer : Status) (w0 w1 : Option (List ℕ)) (f n : ℕ)
-    → Consumes before after text → IsAtEnd after → Answers command want text output → Delivered want answer w0 w1 output f n → answer ≡ status.WriteFault
-    → (input : List ℕ) × (s : Status) × (out : List ℕ) × IsReadOut before after input × Answers command s input out × AppendsFront w0 w1 out
-answered_front command before after text output want answer w0 w1 f n took end answers d e =
-    let A : Status → Type 0 = λ s. Answers command s text output in
-    (text, want, output, (took, inl end), answers, wrote_front want answer w0 w1 output f n d (λ same. subst A same answers) e)
 
 -- an input that is longer than its limit
 too_long_text : codes "refused 0 too-long\n" ≡ fault_text too_long
@@ -76,21 +38,130 @@ refused_long Play input long = (too_long, inl (long, refl), too_long_text)
 past_limit : (bytes : List ℕ) → length bytes ≡ most_bytes + 1 → most_bytes < length bytes
 past_limit bytes e = omega (arith, e)
 
-pub long_refusal : (command : Command) (before after : Option (List ℕ)) (answer : Status) (w0 w1 : Option (List ℕ)) (f n : ℕ)
-    → TookCount before after (λ count. count ≡ most_bytes + 1) → Delivered status.TraceRefused answer w0 w1 (codes "refused 0 too-long\n") f n → answer ≡ status.TraceRefused
-    → (input out : List ℕ) × IsReadOut before after input × Refuses command input out × Appends w0 w1 out
-long_refusal command before after answer w0 w1 f n took d e =
-    let wrote = wrote_whole status.TraceRefused answer w0 w1 _ f n d (λ same. no_fault_word (sym same ∙ e)) in
-    (took.0, codes "refused 0 too-long\n", (took.1, inr took.2), refused_long command took.0 (past_limit took.0 took.2), wrote.1)
+-- words that are none of the forms
+pub ran_usage : (words : List (List ℕ)) (v : Views) → command_of words ≡ None → Ran words v v status.Usage
+ran_usage words v none = record {
+  done = λ e. absurd (let q : status.Usage ≡ status.Done = e in cc);
+  refused = λ e. absurd (let q : status.Usage ≡ status.TraceRefused = e in cc);
+  cut_short = λ e. absurd (let q : status.Usage ≡ status.WriteFault = e in cc);
+  usage = ((λ e. none), (λ n. refl));
+  never_no = λ e. let q : status.Usage ≡ status.No = e in cc;
+  read_fault = λ e. absurd (let q : status.Usage ≡ status.ReadFault = e in cc);
+  write_fault = λ e. absurd (let q : status.Usage ≡ status.WriteFault = e in cc);
+  faultless = λ h. absurd h;
+  read_first = λ e. absurd (let q : status.Usage ≡ status.WriteFault = e in cc);
+  complete = λ some. absurd (let q : IsSome {T = Command} None = subst IsSome none some in cc);
+}
 
-pub long_front : (command : Command) (before after : Option (List ℕ)) (answer : Status) (w0 w1 : Option (List ℕ)) (f n : ℕ)
-    → TookCount before after (λ count. count ≡ most_bytes + 1) → Delivered status.TraceRefused answer w0 w1 (codes "refused 0 too-long\n") f n → answer ≡ status.WriteFault
-    → (input : List ℕ) × (s : Status) × (out : List ℕ) × IsReadOut before after input × Answers command s input out × AppendsFront w0 w1 out
-long_front command before after answer w0 w1 f n took d e = (
-  took.0,
-  status.TraceRefused,
-  codes "refused 0 too-long\n",
-  (took.1, inr took.2),
-  refused_long command took.0 (past_limit took.0 took.2),
-  wrote_front status.TraceRefused answer w0 w1 _ f n d (λ same. no_fault_word (sym same)) e,
-)
+module _ (words : List (List ℕ)) (before after : Views) (command : Command) (asked : command_of words ≡ Some command) where
+  no_usage : command_of words ≡ None → ⊥
+  no_usage none = let q : Some command ≡ None = sym asked ∙ none in cc
+
+  -- the source failed
+  pub ran_unread : HasFailed before.source after.source → Ran words before after status.ReadFault
+  ran_unread failed = record {
+    done = λ e. absurd (let q : status.ReadFault ≡ status.Done = e in cc);
+    refused = λ e. absurd (let q : status.ReadFault ≡ status.TraceRefused = e in cc);
+    cut_short = λ e. absurd (let q : status.ReadFault ≡ status.WriteFault = e in cc);
+    usage = ((λ e. absurd (let q : status.ReadFault ≡ status.Usage = e in cc)), (λ none. absurd (no_usage none)));
+    never_no = λ e. let q : status.ReadFault ≡ status.No = e in cc;
+    read_fault = λ e. failed;
+    write_fault = λ e. absurd (let q : status.ReadFault ≡ status.WriteFault = e in cc);
+    faultless = λ h. absurd h;
+    read_first = λ e. absurd (let q : status.ReadFault ≡ status.WriteFault = e in cc);
+    complete = λ some whole written. absurd (whole failed);
+  }
+
+  -- memory was refused
+  pub ran_no_memory : after.source.faults ≡ before.source.faults → after.sink.faults ≡ before.sink.faults → Ran words before after status.NoMemory
+  ran_no_memory read kept = record {
+    done = λ e. absurd (let q : status.NoMemory ≡ status.Done = e in cc);
+    refused = λ e. absurd (let q : status.NoMemory ≡ status.TraceRefused = e in cc);
+    cut_short = λ e. absurd (let q : status.NoMemory ≡ status.WriteFault = e in cc);
+    usage = ((λ e. absurd (let q : status.NoMemory ≡ status.Usage = e in cc)), (λ none. absurd (no_usage none)));
+    never_no = λ e. let q : status.NoMemory ≡ status.No = e in cc;
+    read_fault = λ e. absurd (let q : status.NoMemory ≡ status.ReadFault = e in cc);
+    write_fault = λ e. absurd (let q : status.NoMemory ≡ status.WriteFault = e in cc);
+    faultless = λ h. (read, kept);
+    read_first = λ e. absurd (let q : status.NoMemory ≡ status.WriteFault = e in cc);
+    complete = λ some whole written. tt;
+  }
+
+  -- the output is written whole
+  ran_done : IsDone words before after → after.source.faults ≡ before.source.faults → after.sink.faults ≡ before.sink.faults → Ran words before after status.Done
+  ran_done is read kept = record {
+    done = λ e. is;
+    refused = λ e. absurd (let q : status.Done ≡ status.TraceRefused = e in cc);
+    cut_short = λ e. absurd (let q : status.Done ≡ status.WriteFault = e in cc);
+    usage = ((λ e. absurd (let q : status.Done ≡ status.Usage = e in cc)), (λ none. absurd (no_usage none)));
+    never_no = λ e. let q : status.Done ≡ status.No = e in cc;
+    read_fault = λ e. absurd (let q : status.Done ≡ status.ReadFault = e in cc);
+    write_fault = λ e. absurd (let q : status.Done ≡ status.WriteFault = e in cc);
+    faultless = λ h. (read, kept);
+    read_first = λ e. absurd (let q : status.Done ≡ status.WriteFault = e in cc);
+    complete = λ some whole written. tt;
+  }
+
+  -- the line of a refusal is written whole
+  ran_refused : IsRefused words before after → after.source.faults ≡ before.source.faults → after.sink.faults ≡ before.sink.faults → Ran words before after status.TraceRefused
+  ran_refused is read kept = record {
+    done = λ e. absurd (let q : status.TraceRefused ≡ status.Done = e in cc);
+    refused = λ e. is;
+    cut_short = λ e. absurd (let q : status.TraceRefused ≡ status.WriteFault = e in cc);
+    usage = ((λ e. absurd (let q : status.TraceRefused ≡ status.Usage = e in cc)), (λ none. absurd (no_usage none)));
+    never_no = λ e. let q : status.TraceRefused ≡ status.No = e in cc;
+    read_fault = λ e. absurd (let q : status.TraceRefused ≡ status.ReadFault = e in cc);
+    write_fault = λ e. absurd (let q : status.TraceRefused ≡ status.WriteFault = e in cc);
+    faultless = λ h. (read, kept);
+    read_first = λ e. absurd (let q : status.TraceRefused ≡ status.WriteFault = e in cc);
+    complete = λ some whole written. tt;
+  }
+
+  -- the sink failed
+  ran_cut_short : IsCutShort words before after → after.source.faults ≡ before.source.faults → HasFailed before.sink after.sink → Ran words before after status.WriteFault
+  ran_cut_short is read failed = record {
+    done = λ e. absurd (let q : status.WriteFault ≡ status.Done = e in cc);
+    refused = λ e. absurd (let q : status.WriteFault ≡ status.TraceRefused = e in cc);
+    cut_short = λ e. is;
+    usage = ((λ e. absurd (let q : status.WriteFault ≡ status.Usage = e in cc)), (λ none. absurd (no_usage none)));
+    never_no = λ e. let q : status.WriteFault ≡ status.No = e in cc;
+    read_fault = λ e. absurd (let q : status.WriteFault ≡ status.ReadFault = e in cc);
+    write_fault = λ e. failed;
+    faultless = λ h. absurd h;
+    read_first = λ e. read;
+    complete = λ some whole written. absurd (written failed);
+  }
+
+  -- a text that is written whole ends the run as the answer says
+  ran_whole : (want : Status) (text output : List ℕ) → Consumes before.source.bytes after.source.bytes text → IsAtEnd after.source.bytes → after.source.faults ≡ before.source.faults
+      → Answers command want text output → Appends before.sink.bytes after.sink.bytes output → after.sink.faults ≡ before.sink.faults → Ran words before after want
+  ran_whole status.Done text output took end read answers wrote kept =
+      ran_done (record { command = command; input = text; output = output; asked = asked; read = took; at_end = end; made = answers; written = wrote }) read kept
+  ran_whole status.TraceRefused text output took end read answers wrote kept =
+      ran_refused (record { command = command; input = text; output = output; asked = asked; read = (took, inl end); refuses = answers; written = wrote }) read kept
+  ran_whole status.No text output took end read answers wrote kept = absurd answers
+  ran_whole status.Usage text output took end read answers wrote kept = absurd answers
+  ran_whole status.ReadFault text output took end read answers wrote kept = absurd answers
+  ran_whole status.WriteFault text output took end read answers wrote kept = absurd answers
+  ran_whole status.NoMemory text output took end read answers wrote kept = absurd answers
+
+  -- the input was read to its end, and its answer delivered
+  pub ran_reply : (want answer : Status) (text output : List ℕ) → Consumes before.source.bytes after.source.bytes text → IsAtEnd after.source.bytes → after.source.faults ≡ before.source.faults
+      → Answers command want text output → Delivered want answer before.sink after.sink output → Ran words before after answer
+  ran_reply want answer text output took end read answers d =
+      let P : Status → Type 0 = λ s. Ran words before after s in
+      ⊎_elim
+      (λ whole. subst P (sym whole.0) (ran_whole want text output took end read answers whole.1 whole.2))
+      (λ front. subst P (sym front.0) (ran_cut_short (record { command = command; input = text; status = want; output = output; asked = asked; read = (took, inl end); answers = answers; front = front.1 }) read front.2))
+      d.outcome
+
+  -- the input is longer than its limit
+  pub ran_long : (answer : Status) → TookCount before.source.bytes after.source.bytes (λ count. count ≡ most_bytes + 1) → after.source.faults ≡ before.source.faults
+      → Delivered status.TraceRefused answer before.sink after.sink (codes "refused 0 too-long\n") → Ran words before after answer
+  ran_long answer took read d =
+      let refuses = refused_long command took.0 (past_limit took.0 took.2) in
+      let P : Status → Type 0 = λ s. Ran words before after s in
+      ⊎_elim
+      (λ whole. subst P (sym whole.0) (ran_refused (record { command = command; input = took.0; output = codes "refused 0 too-long\n"; asked = asked; read = (took.1, inr took.2); refuses = refuses; written = whole.1 }) read whole.2))
+      (λ front. subst P (sym front.0) (ran_cut_short (record { command = command; input = took.0; status = status.TraceRefused; output = codes "refused 0 too-long\n"; asked = asked; read = (took.1, inr took.2); answers = refuses; front = front.1 }) read front.2))
+      d.outcome

@@ -3,8 +3,8 @@
 //! Its central contract is that of `run`, which carries the promise of the whole program: where it
 //! answers `Done`, the bytes that were read are a trace, or a script of `play`, and the bytes that were
 //! written are the report of a replay of it, or of its steps, by the definitions of `trace_format`,
-//! `trace_history` and `play_script`; each other status comes with its cause. Read `specs/Run.antt` first,
-//! then `top`.
+//! `trace_history` and `play_script`; each other status comes with its cause. `run_alone` is the same for words that
+//! wait for nobody, and so it returns. Read `Ran` in `specs/Run.antt` first, then `top`.
 #![tactic(auto)]
 
 mod refusals;
@@ -12,8 +12,5 @@ mod replies;
 mod top;
 mod words;
 
-pub use top::run;
+pub use top::{run, run_alone};
 pub use words::Command;
-
-#[cfg(test)]
-mod tests;

@@ -47,10 +47,13 @@ fn played_text(alloc: Global, script: &PlayScript) -> Result<Vec<u8>, NoMemory>
     play_text(alloc, &played, script)
 }
 
-fn replayed(alloc: Global, text: &[u8]) -> Result<Reply, NoMemory>
-    ensures { IfOk result (λ reply. Answers command.Replay reply.status text.now reply.text.items) }
+// Lets go of the text once the trace is read.
+fn replayed(alloc: Global, text: Vec<u8>) -> Result<Reply, NoMemory>
+    ensures { IfOk result (λ reply. Answers command.Replay reply.status text.items reply.text.items) }
 {
-    match read_trace(alloc, text) {
+    let read = read_trace(alloc, &text);
+    drop(text);
+    match read {
         Ok(trace) => {
             let reply = reply_to_trace(alloc, &trace)?;
             Ok(reply)
@@ -63,10 +66,12 @@ fn replayed(alloc: Global, text: &[u8]) -> Result<Reply, NoMemory>
     }
 }
 
-fn played(alloc: Global, text: &[u8]) -> Result<Reply, NoMemory>
-    ensures { IfOk result (λ reply. Answers command.Play reply.status text.now reply.text.items) }
+fn played(alloc: Global, text: Vec<u8>) -> Result<Reply, NoMemory>
+    ensures { IfOk result (λ reply. Answers command.Play reply.status text.items reply.text.items) }
 {
-    match read_play(alloc, text) {
+    let read = read_play(alloc, &text);
+    drop(text);
+    match read {
         Ok(script) => Ok(Reply {
             status: Status::Done,
             text: played_text(alloc, &script)?,
@@ -79,9 +84,9 @@ fn played(alloc: Global, text: &[u8]) -> Result<Reply, NoMemory>
     }
 }
 
-/// What the command makes of an input.
-pub fn reply_to(alloc: Global, command: Command, text: &[u8]) -> Result<Reply, NoMemory>
-    ensures { IfOk result (λ reply. Answers command reply.status text.now reply.text.items) }
+/// What the command makes of an input, whose bytes are let go of once they are read.
+pub fn reply_to(alloc: Global, command: Command, text: Vec<u8>) -> Result<Reply, NoMemory>
+    ensures { IfOk result (λ reply. Answers command reply.status text.items reply.text.items) }
 {
     match command {
         Command::Replay => replayed(alloc, text),

@@ -1,5 +1,5 @@
-use crate::run;
 use spie_base::{MemSink, MemSource, Status};
+use spie_run::run;
 use std::alloc::Global;
 use std::sync::Wait;
 use std::test::Fail;
@@ -111,22 +111,27 @@ fn clear_query(rt: HostRuntime) -> Result<(), Fail> {
     Ok(())
 }
 
+// The first with another checksum.
+const WRONG: &str = "4500001c00010000401166cf0a0000010a0000020102030405060708";
+
+// A packet, the line behind its records, the lines behind that one, and what is written.
+const REFUSALS: [(&str, &str, &str, &str); 10] = [
+    (WRONG, "query c 0 0", "end\n", "refused 9 checksum\n"),
+    (P0, "query c 0 0", "", "refused 14 ending\n"),
+    (P0, "quary c 0 0", "end\n", "refused 13 word\n"),
+    (P0, "query d 0 0", "end\n", "refused 13 no-name\n"),
+    (P0, "query c 0 1", "end\n", "refused 13 clock\n"),
+    (P0, "fwd a 1", "end\n", "refused 13 no-packet\n"),
+    (P0, "xf a ipip 0 0", "end\n", "refused 13 kind\n"),
+    (P0, "query c 0 0", "end\nx\n", "refused 15 after\n"),
+    (P0, "tick 1", "end\n", "refused 13 unbuilt\n"),
+    (P0, "rotate a", "tick 1\nend\n", "refused 13 unbuilt\n"),
+];
+
 #[test]
 fn trace_refusals(rt: HostRuntime) -> Result<(), Fail> {
     let alloc = rt.alloc();
-    let wrong = "4500001c00010000401166cf0a0000010a0000020102030405060708";
-    for (packet, last, more, output) in [
-        (wrong, "query c 0 0", "end\n", "refused 9 checksum\n"),
-        (P0, "query c 0 0", "", "refused 14 ending\n"),
-        (P0, "quary c 0 0", "end\n", "refused 13 word\n"),
-        (P0, "query d 0 0", "end\n", "refused 13 no-name\n"),
-        (P0, "query c 0 1", "end\n", "refused 13 clock\n"),
-        (P0, "fwd a 1", "end\n", "refused 13 no-packet\n"),
-        (P0, "xf a ipip 0 0", "end\n", "refused 13 kind\n"),
-        (P0, "query c 0 0", "end\nx\n", "refused 15 after\n"),
-        (P0, "tick 1", "end\n", "refused 13 unbuilt\n"),
-        (P0, "rotate a", "tick 1\nend\n", "refused 13 unbuilt\n"),
-    ] {
+    for (packet, last, more, output) in REFUSALS {
         let body = format!(in alloc; "packet {packet}\nfwd a 0\nfwd b 0\nfwd c 0\n{last}\n{more}")?;
         assert!(rt; gives(&rt, &body, Status::TraceRefused, output)?, "{body}");
     }
@@ -144,6 +149,16 @@ fn plays<R: Threads + Wait + Sync + AllocGlobal>(
     Ok(ended == status && text.as_slice() == output.as_bytes())
 }
 
+// The steps of a script, and what is written.
+const SCRIPT_REFUSALS: [(&str, &str); 6] = [
+    ("0 look\n", "refused 4 ending\n"),
+    ("2 look\nend\n", "refused 3 field\n"),
+    ("0 seal\nend\n", "refused 3 field\n"),
+    ("k probe 0 64\nend\n", "refused 3 field\n"),
+    ("k open\nend\n", "refused 3 fields\n"),
+    ("end\nx\n", "refused 4 after\n"),
+];
+
 // A pass comes to a gate that was sealed, drained and opened again meanwhile.
 #[test]
 fn play_a_visitor(rt: HostRuntime) -> Result<(), Fail> {
@@ -160,14 +175,7 @@ fn play_a_visitor(rt: HostRuntime) -> Result<(), Fail> {
         "13 collected 0\n14 opened 1\n15 pointed 0\n16 sealed 1\n17 pending 1\n18 left\n19 quiet\npage 0 collected entries 1 bits 1\npage 1 quiet entries 0 bits 0\nend\n";
     let output = format!(in alloc; "{first}{last}")?;
     assert!(rt; plays(&rt, &script, Status::Done, &output)?);
-    for (body, refused) in [
-        ("0 look\n", "refused 4 ending\n"),
-        ("2 look\nend\n", "refused 3 field\n"),
-        ("0 seal\nend\n", "refused 3 field\n"),
-        ("k probe 0 64\nend\n", "refused 3 field\n"),
-        ("k open\nend\n", "refused 3 fields\n"),
-        ("end\nx\n", "refused 4 after\n"),
-    ] {
+    for (body, refused) in SCRIPT_REFUSALS {
         let script = format!(in alloc; "spie-play 1\ncore 2 1 6 0000000000000000\n{body}")?;
         assert!(rt;
             plays(&rt, &script, Status::TraceRefused, refused)?,
@@ -232,26 +240,26 @@ fn ten_queries(rt: HostRuntime) -> Result<(), Fail> {
     Ok(())
 }
 
-// With options, without payload, and with bytes behind the total length.
+// A packet and its signature: with options, without payload, and with bytes behind the total length.
+const OTHER_PACKETS: [(&str, &str); 3] = [
+    (
+        "4600002000010000401100000a0000010a00000201010101aaaaaaaabbbbbbbb",
+        "4600002000010000001100000a0000010a000002aaaaaaaabbbbbbbb",
+    ),
+    (
+        "4500001400030000400100000a0000050a000006",
+        "4500001400030000000100000a0000050a0000060000000000000000",
+    ),
+    (
+        "4500001400030000400100000a0000050a000006ffff",
+        "4500001400030000000100000a0000050a0000060000000000000000",
+    ),
+];
+
 #[test]
 fn other_packets(rt: HostRuntime) -> Result<(), Fail> {
     let alloc = rt.alloc();
-    let options = "4600002000010000401100000a0000010a00000201010101aaaaaaaabbbbbbbb";
-    let bare = "4500001400030000400100000a0000050a000006";
-    for (packet, sig) in [
-        (
-            options,
-            "4600002000010000001100000a0000010a000002aaaaaaaabbbbbbbb",
-        ),
-        (
-            bare,
-            "4500001400030000000100000a0000050a0000060000000000000000",
-        ),
-        (
-            "4500001400030000400100000a0000050a000006ffff",
-            "4500001400030000000100000a0000050a0000060000000000000000",
-        ),
-    ] {
+    for (packet, sig) in OTHER_PACKETS {
         let body = format!(in alloc; "packet {packet}\nfwd c 0\nquery c 0 0\nend\n")?;
         let front =
             "spie-report 1\n10 in 0\n11 query\n11 pages a expired - unreadable - used 0\n11 pages b expired - unreadable - used 0\n11 pages c expired - unreadable - used 0\n";
