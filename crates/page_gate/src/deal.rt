@@ -13,7 +13,7 @@ use std::alloc::Global;
 
 impl Plane {
     /// Deals so many passes, 1 to `MOST_PASSES`. Their lists are empty, and their floor is the page of the slot at which the keeper
-    /// last pointed. Takes memory for the list alone; `AllocError` where there is none, and then nothing is dealt. Costs a load for
+    /// last pointed. Takes memory for the list alone; `NoMemory` where there is none, and then nothing is dealt. Costs a load for
     /// each.
     pub fn deal(
         &self,
