@@ -9,6 +9,7 @@ use Rattle.std.proofs.lemmas.List.Concat.{flat_map-cons}
 use Rattle.std.proofs.lemmas.Nat.{be_bytes_2, be_bytes_4, be_bytes_8}
 use Rattle.byteorder.specs.Endian.{big_number, big_bytes}
 use Rattle.byteorder.specs.Numbers.{big_from-take, big_from-lt, big_number-reads_back, length-bytes_high_first}
+use Rattle.spie_base.proofs.Booleans.{both_held}
 use Rattle.archive_record.specs.Reading.{◌>>=◌, number_in, bytes_in, first_words, words_in}
 
 abbrev pub IsBytes : List ℕ → Type 0
@@ -39,11 +40,6 @@ done x = Ok x
 
 pub ok_is : {A : Type 0} (x y : A) → done x ≡ done y → x ≡ y
 ok_is x y e = cc
-
-both_true : (a b : Bool) → (a && b) ≡ true → (a ≡ true) × (b ≡ true)
-both_true true true e = (refl, refl)
-both_true true false e = absurd cc
-both_true false b e = absurd cc
 
 -- what a reader took from the front
 pub record Takes (bytes text rest : List ℕ) : Type 0 where
@@ -92,8 +88,8 @@ pub record TakesNumber (n low high : ℕ) (bytes : List ℕ) (x : ℕ × List �
 pub number_takes : (n low high : ℕ) → IsWide n → (bytes : List ℕ) (x : ℕ × List ℕ) → IsBytes bytes → number_in n low high bytes ≡ Ok x → TakesNumber n low high bytes x
 number_takes n low high wide bytes x fits e =
     let g = guard_ok (leb n (length bytes) && (leb low (big_number n bytes) && leb (big_number n bytes) high)) (length bytes) (big_number n bytes, drop n bytes) x e in
-    let both = both_true (leb n (length bytes)) (leb low (big_number n bytes) && leb (big_number n bytes) high) g.0 in
-    let within = both_true (leb low (big_number n bytes)) (leb (big_number n bytes) high) both.1 in
+    let both = both_held (leb n (length bytes)) (leb low (big_number n bytes) && leb (big_number n bytes) high) g.0 in
+    let within = both_held (leb low (big_number n bytes)) (leb (big_number n bytes) high) both.1 in
     let long : n ≤ length bytes = leb-true _ _ both.0 in
     let parts : bytes ≡ big_bytes n (big_number n bytes) ++ drop n bytes = rw (wide.back bytes long fits) (sym (take-append-drop n bytes)) in
     subst (λ (y : ℕ × List ℕ). TakesNumber n low high bytes y) g.1 (record { takes = record { parts = parts; rest_fits = IsBytes-drop n bytes fits }; above = leb-true _ _ within.0; below = leb-true _ _ within.1 })
