@@ -16,10 +16,10 @@ use Rattle.gate_core.specs.PageWords.{stands_with, slot_with, phase_with, live_f
 use Rattle.gate_core.specs.Kept.{notes_of, views_of, core_of, Holds}
 use Rattle.gate_core.proofs.Members.{item_at}
 use Rattle.gate_core.proofs.Gates.{gate_page, sealed_two}
-use Rattle.gate_core.proofs.Keeps.{crowd}
+use Rattle.gate_core.proofs.Inside.{crowd}
 use Rattle.gate_core.proofs.KeptViews.{length-views_from}
-use Rattle.gate_core.proofs.KeptActs.{view_is}
-use Rattle.gate_core.proofs.DeskActs.{has_seat, desk_duties, own_entries, desk_fits}
+use Rattle.gate_core.proofs.MachineSteps.{view_is}
+use Rattle.gate_core.proofs.KeeperSteps.{has_seat, desk_duties, own_entries, desk_fits}
 
 -- the keeper's duties, as the machine's value has them
 pub duties_is : (m : CoreData) → Holds m → core.duties_of (core_of m) ≡ desk_duties m

@@ -1,5 +1,5 @@
--- `drain` keeps the plane invariant.
-use Rattle.std.proofs.Common.{◌≡◌, ℕ, suc, zero, ◌+◌, ◌*◌, ◌/◌, ◌%◌, ◌^◌, ◌<◌, ◌≤◌, ◌≢◌, ◌⊎◌, ◌↔◌, Bool, true, cond, nat_lt, eqb, List, [], ◌∷◌, ◌++◌, length, get_or, set, sym, refl, ap, ◌∙◌, subst, inl, inr, ⊎_elim, arith, le_refl, mul-le-mul_right, lt-ltb, le-ltb, lt_of_not-le, length-set, length-append, get_or-set_same, get_or-set_other}
+-- `drain`: the next word of a quiet slot is collected and cleared.
+use Rattle.std.proofs.Common.{◌≡◌, ℕ, suc, zero, ◌+◌, ◌*◌, ◌/◌, ◌%◌, ◌^◌, ◌<◌, ◌≤◌, ◌≢◌, ◌⊎◌, ◌↔◌, Bool, true, cond, nat_lt, eqb, List, [], ◌∷◌, ◌++◌, length, get_or, set, sym, refl, ap, ◌∙◌, subst, inl, inr, ⊎_elim, arith, le_refl, mul-le-mul_right, lt-ltb, le-ltb, lt_of_not-le, length-set, length-append, get_or-set_same, get_or-set_other, ◌-◌, ◌==◌, if◌then◌else◌, map, mul-le-mul_left, eq-eqb, ne_eqb, ap₂}
 use mathlib.Core.Option.{some}
 use mathlib.Core.Logic.{dite}
 use native.Mathlib.Decide.{ℕ_discrete, dec_le}
@@ -11,14 +11,35 @@ use Rattle.gate_core.specs.declared.states.SlotPhase.{SlotPhase}
 use Rattle.gate_core.specs.declared.states.SlotPhase.TheVariants.{Free, Open, Sealed, Quiet}
 use Rattle.bloom_page.specs.Bits.{bit_in}
 use Rattle.gate_core.specs.Marks.{width, size}
-use Rattle.gate_core.specs.Views.{Keeper, Duties, View, slot_at, collected_of}
-use Rattle.gate_core.specs.Acts.{gate_place, bit_place, in_phase, with_duties, next_word, after_drain, IsQuiet}
+use Rattle.gate_core.specs.Views.{Keeper, Duties, View, slot_at, collected_of, Slot, no_slot}
+use Rattle.gate_core.specs.Acts.{gate_place, bit_place, in_phase, with_duties, next_word, after_drain, IsQuiet, numbered, phased_slot, phase_taken, drained_to, view_after}
 use Rattle.gate_core.specs.Invariant.{total, in_slot, seal_bit, HasPage, IsLive, taken, live_bit, page_bit, HasSet, Marked, Recorded, IsCollected, StateFits, SlotsFit, ActorFits, PlaneFits, PlaneInvariant}
+use Rattle.std.specs.Prelude.{vec_len, vec_capacity, slice_get, Some, Vec}
+use Rattle.std.specs.declared.alloc.Global.{Global}
+use Rattle.std.proofs.Math.Pow.{pow_mono}
+use Rattle.std.proofs.lemmas.List.{map-set, length-map, set-set, set-get_or}
+use Rattle.std.proofs.lemmas.Option.{get_or_from_slice_get, slice_get_within}
+use Rattle.gate_core.specs.declared.steps.Act.TheVariants.{Drain}
+use Rattle.gate_core.specs.declared.steps.StepAnswer.{StepAnswer}
+use Rattle.gate_core.specs.declared.steps.StepAnswer.TheVariants as answer
+use Rattle.gate_core.specs.declared.states.ActorState.TheVariants as actor_state
+use Rattle.gate_core.specs.declared.core_data.CoreData.{CoreData}
+use Rattle.gate_core.specs.declared.core_data.Desk.{Desk}
+use Rattle.spie_base.specs.Shapes.{IsShape}
+use Rattle.gate_core.specs.Kept.{notes_of, duties_of, view_of, paid, HasDeskRoom, Holds, DoesAct}
+use Rattle.gate_core.specs.Desks.{slot_in, phased, after_word, AddsWord}
 use Rattle.gate_core.proofs.Gates.{tested}
 use Rattle.gate_core.proofs.Frame.{not_both}
 use Rattle.gate_core.proofs.Bits.{one_slot}
 use Rattle.gate_core.proofs.Slots.{page_same, used_same, phase_case}
-use Rattle.gate_core.proofs.Duty.{duty_kept}
+use Rattle.gate_core.proofs.Duty.{duty_kept, keeper_fits}
+use Rattle.gate_core.proofs.Lists.{at_set}
+use Rattle.gate_core.proofs.MachineSteps.{does_nothing, KeepsPlane}
+use Rattle.gate_core.proofs.KeeperSteps.{first_of, four_slots, desk_fits, DeskBecomes, desk_is, desk_framed, desk_act}
+use Rattle.gate_core.proofs.SlotRoom.{HasFamilies, room_phased, families_phased}
+use Rattle.gate_core.proofs.CollectedLists.{Lists, words_in, slice_get_there}
+
+-- ---- the act keeps the plane invariant
 
 quiet_is : (ph : SlotPhase) → IsQuiet ph → ph ≡ Quiet (next_word ph)
 quiet_is Free k = absurd k
@@ -270,3 +291,181 @@ module _ (shape : PageShape) (words : List ℕ) (views : List View) (id : ℕ) (
 
   pub drains : PlaneInvariant shape words' (set views id (after_drain shape v s x))
   drains = drains_to (cond (eqb (j + 1) w) Free (Quiet (j + 1))) (onward j w j_short)
+
+-- the same, whoever does it
+pub drain_keeps : (s : ℕ) → KeepsPlane (Drain s)
+drain_keeps s shape words views r id v there alive can = drains shape words views id v there can.0 (keeper_fits shape words views r id v there can.0) s can.1 can.2
+
+-- ---- the act of the machine, from what it wrote
+
+get_or-words_in : (xs : List (Vec ℕ Global)) (i : ℕ) (v : Vec ℕ Global) → slice_get xs i ≡ Some v → get_or (map (λ (w : Vec ℕ Global). w.items) xs) i [] ≡ v.items
+get_or-words_in [] i v e = absurd (omega (arith, slice_get_within [] i v e))
+get_or-words_in (x ∷ xs) zero v e = ap (λ (w : Vec ℕ Global). w.items) (get_or_from_slice_get (x ∷ xs) zero v v e)
+get_or-words_in (x ∷ xs) (suc i) v e = get_or-words_in xs i v e
+
+-- ---- what the words of a quiet slot are
+
+pub narrow : (shape : PageShape) → IsShape shape → width shape ≤ 1024
+narrow shape r = let a = r.n_most in let e : shape.n - 6 ≤ 10 = omega arith in pow_mono e
+
+module _ (m : CoreData) (h : Holds m) (s next : ℕ) (near : s < 4) (quiet : (slot_in m.desk s).phase ≡ Quiet next) where
+  abbrev page : ℕ
+  page = (slot_in m.desk s).page
+
+  pub next_within : next < width m.shape
+  next_within = let a = (desk_fits m h).slots.taken_short s near in let b : taken (slot_in m.desk s).phase ≡ next = ap taken quiet in omega arith
+
+  pub next_fits : next + 1 < 4294967296
+  next_fits = let a = next_within in let b = narrow m.shape (desk_fits m h).in_range in omega arith
+
+  pub word_within : bit_place m.shape s next < length m.words.items
+  word_within = let a = next_within in let b = (desk_fits m h).long in let e : s ≤ 3 = omega arith in let q = mul-le-mul_left (width m.shape) e in omega arith
+
+  stands : HasPage (slot_in m.desk s).phase
+  stands = subst HasPage (sym quiet) tt
+
+  pub page_within : page < length m.desk.collected.items
+  page_within = let f = (desk_fits m h).slots in let a = f.used_below s near (f.stands_used s near stands) in let b = f.one_list in let c = length-map m.desk.collected.items (λ (v : Vec ℕ Global). v.items) in omega arith
+
+  -- so many words of the page are collected
+  words_taken : (v : Vec ℕ Global) → slice_get m.desk.collected.items page ≡ Some v → vec_len v ≡ next
+  words_taken v e = v.ok.0 ∙ (ap length (sym (get_or-words_in m.desk.collected.items page v e)) ∙ ((desk_fits m h).slots.taken_words s near stands ∙ ap taken quiet))
+
+  pub page_has_room : (v : Vec ℕ Global) → slice_get m.desk.collected.items page ≡ Some v → vec_len v < vec_capacity v
+  page_has_room v e = let a = words_taken v e in let b = next_within in let k = h.desk.page_words page v (slice_get_there m.desk.collected.items page v e) (omega arith) in omega arith
+
+-- ---- the desk afterwards
+
+abbrev with_lists : Desk → Lists → Desk
+with_lists desk lists = record desk { collected = lists }
+
+lists_longer : (lists lists' : Lists) (page word : ℕ) → AddsWord lists lists' page word → words_in lists' ≡ set (words_in lists) page (get_or (words_in lists) page [] ++ word ∷ [])
+lists_longer lists lists' page word a =
+    let items = λ (v : Vec ℕ Global). v.items in
+    ap (map items) a.becomes ∙ (map-set items lists.items page a.after
+    ∙ ap (λ (l : List ℕ). set (words_in lists) page l) (a.words ∙ ap (λ (l : List ℕ). l ++ word ∷ []) (sym (get_or-words_in lists.items page a.before a.was))))
+
+-- a page that is not full has its memory still
+pages_longer : (wide : ℕ) (lists lists' : Lists) (page word : ℕ) → AddsWord lists lists' page word
+    → ((i : ℕ) (v : Vec ℕ Global) → get_elem? lists.items i ≡ some v → vec_len v < wide → wide ≤ vec_capacity v)
+    → (i : ℕ) (v : Vec ℕ Global) → get_elem? lists'.items i ≡ some v → vec_len v < wide → wide ≤ vec_capacity v
+pages_longer wide lists lists' page word a old i v at short = ⊎_elim
+    (λ t. let same : a.after ≡ v = t.1 in
+    let k : vec_len a.before < wide = let e = ap length a.words in let l = length-append a.before.items (word ∷ []) in let q : vec_len a.after ≡ vec_len v = ap (λ (w : Vec ℕ Global). vec_len w) same in omega (arith, a.before.ok.0, a.after.ok.0) in
+    let b = old page a.before (slice_get_there lists.items page a.before a.was) k in
+    let q : vec_capacity a.after ≡ vec_capacity v = ap (λ (w : Vec ℕ Global). vec_capacity w) same in let r = a.word_room in omega arith)
+    (λ t. old i v t.1 short)
+    (at_set lists.items page i a.after v (subst (λ (l : List (Vec ℕ Global)). get_elem? l i ≡ some v) a.becomes at))
+
+room_longer : (wide : ℕ) (desk : Desk) (lists' : Lists) (room page word : ℕ) → HasDeskRoom wide desk room → AddsWord desk.collected lists' page word → HasDeskRoom wide (with_lists desk lists') room
+room_longer wide desk lists' room page word h a = record {
+  probes = h.probes;
+  pages = let k = h.pages in let e = ap length a.becomes in let l = length-set desk.collected.items page a.after in let r = a.list_room in omega (arith, desk.collected.ok.0, lists'.ok.0);
+  spare = h.spare;
+  spare_words = h.spare_words;
+  page_words = pages_longer wide desk.collected lists' page word a h.page_words;
+}
+
+paid_after : (next wide : ℕ) → paid wide (after_word next wide) ≤ next + 1
+paid_after next wide = tested (λ (ph : SlotPhase). paid wide ph ≤ next + 1) (next + 1) wide Free (Quiet (next + 1)) (λ e. omega arith) (λ ne. omega arith)
+
+module _ (m m' : CoreData) (h : Holds m) (some_room : 1 ≤ m.room) (s : ℕ) (near : s < 4) (reply : StepAnswer) where
+  abbrev k : ℕ
+  k = next_word (slot_in m.desk s).phase
+
+  abbrev ph : SlotPhase
+  ph = after_word k (width m.shape)
+
+  abbrev page_of_slot : ℕ
+  page_of_slot = (slot_in m.desk s).page
+
+  abbrev p : ℕ
+  p = length m.seats.items - 1
+
+  abbrev v : View
+  v = view_of (notes_of m) 0 (first_of m h).seat.state
+
+  abbrev to : ℕ → Desk
+  to next = with_lists (phased m.desk s (after_word next (width m.shape))) m'.desk.collected
+
+  slot_within : s < length m.desk.slots
+  slot_within = let a = four_slots m h in omega arith
+
+  drained_at : (slot_in m.desk s).phase ≡ Quiet k → DeskBecomes m m' (to k) → m'.words.items ≡ set m.words.items (bit_place m.shape s k) 0 → AddsWord m.desk.collected m'.desk.collected page_of_slot (get_or m.words.items (bit_place m.shape s k) 0)
+      → reply ≡ (if k + 1 == width m.shape then answer.Collected (numbered page_of_slot) else answer.Drained) → DoesAct m m' 0 (Drain s) reply
+  drained_at quiet others words added answers =
+      let e = sym (desk_is m m' (to k) others) in
+      let pays : paid (width m.shape) ph ≤ paid (width m.shape) (slot_in m.desk s).phase + 1 = let a = paid_after k (width m.shape) in let b : paid (width m.shape) (slot_in m.desk s).phase ≡ k = ap (paid (width m.shape)) quiet in omega arith in
+      desk_act m m' (first_of m h).seat (Drain s) (first_of m h).there (drain_keeps s) reply h (refl, near, subst IsQuiet (sym quiet) tt) (record {
+        words = words;
+        others = desk_framed m m' (to k) others;
+        duties = ap (λ (d : Desk). with_duties v (duties_of d p)) (sym e)
+            ∙ ap (λ (l : List (List ℕ)). with_duties v (in_phase (record (duties_of m.desk p) { collected = l }) s ph)) (lists_longer m.desk.collected m'.desk.collected page_of_slot (get_or m.words.items (bit_place m.shape s k) 0) added);
+        none = refl;
+        room = subst (λ (d : Desk). HasDeskRoom (width m.shape) d (m.room - 1)) e
+            (room_longer (width m.shape) (phased m.desk s ph) m'.desk.collected (m.room - 1) page_of_slot (get_or m.words.items (bit_place m.shape s k) 0) (room_phased (width m.shape) m.desk m.room s ph h.desk slot_within some_room pays) added);
+        families = subst (HasFamilies m.shape) e (families_phased m.shape m.desk s ph h.families slot_within);
+      }) answers
+
+  pub drain_done : (next : ℕ) → (slot_in m.desk s).phase ≡ Quiet next → DeskBecomes m m' (with_lists (phased m.desk s (after_word next (width m.shape))) m'.desk.collected) → m'.words.items ≡ set m.words.items (bit_place m.shape s next) 0
+      → AddsWord m.desk.collected m'.desk.collected (slot_in m.desk s).page (get_or m.words.items (bit_place m.shape s next) 0)
+      → reply ≡ (if next + 1 == width m.shape then answer.Collected (numbered (slot_in m.desk s).page) else answer.Drained) → DoesAct m m' 0 (Drain s) reply
+  drain_done next quiet =
+      let P : ℕ → Type 0 = λ j. (slot_in m.desk s).phase ≡ Quiet j → DeskBecomes m m' (to j) → m'.words.items ≡ set m.words.items (bit_place m.shape s j) 0 → AddsWord m.desk.collected m'.desk.collected page_of_slot (get_or m.words.items (bit_place m.shape s j) 0)
+      → reply ≡ (if j + 1 == width m.shape then answer.Collected (numbered page_of_slot) else answer.Drained) → DoesAct m m' 0 (Drain s) reply in
+      let e : k ≡ next = ap next_word quiet in
+      subst P e drained_at quiet
+
+not_quiet : (ph : SlotPhase) → ((next : ℕ) → ¬ (ph ≡ Quiet next)) → ¬ IsQuiet ph
+not_quiet Free other h = h
+not_quiet Open other h = h
+not_quiet Sealed other h = h
+not_quiet (Quiet next) other h = other next refl
+
+pub drain_declined : (m m' : CoreData) (h : Holds m) (s : ℕ) (reply : StepAnswer) → ((next : ℕ) → ¬ ((slot_in m.desk s).phase ≡ Quiet next)) → m' ≡ record m { room = m.room - 1 }
+    → reply ≡ answer.NotEnabled (actor_state.Keeper (map (λ (x : Slot). x.phase) m.desk.slots)) → DoesAct m m' 0 (Drain s) reply
+drain_declined m m' h s reply other is answers = does_nothing m m' 0 (first_of m h).seat (Drain s) (first_of m h).there reply h (λ can. not_quiet (slot_in m.desk s).phase other can.2) is answers
+
+-- ---- a slot that is drained word by word, as one equation
+
+module _ (shape : PageShape) (v : View) (s : ℕ) (within : s < length v.duties.slots) (paged : (slot_at v.duties s).page < length v.duties.collected) where
+  abbrev start : Duties
+  start = v.duties
+
+  abbrev start_page : ℕ
+  start_page = (slot_at start s).page
+
+  -- the next word after j words, from a slot that is Quiet with j taken
+  pub quiet_more : (j n : ℕ) (ws : List ℕ) → view_after shape (Drain s) (drained_to v s (Quiet j) ws) n ≡ drained_to v s (phase_taken shape (j + 1)) (ws ++ n ∷ [])
+  quiet_more j n ws =
+      let x : Slot = phased_slot start s (Quiet j) in
+      let xs : List Slot = set start.slots s x in
+      let cs : List (List ℕ) = set start.collected start_page ws in
+      let F : Slot → List ℕ → View = λ y got. record v { duties = record start { slots = set xs s (record { phase = phase_taken shape (next_word y.phase + 1); page = y.page; used = y.used }); collected = set cs y.page (got ++ n ∷ []) } } in
+      let here : slot_at (drained_to v s (Quiet j) ws).duties s ≡ x = get_or-set_same start.slots s x no_slot within in
+      let got : collected_of (drained_to v s (Quiet j) ws).duties start_page ≡ ws = get_or-set_same start.collected start_page ws [] paged in
+      let begun : view_after shape (Drain s) (drained_to v s (Quiet j) ws) n ≡ F x ws = ap (λ (y : Slot). F y (get_or cs y.page [])) here ∙ ap (F x) got in
+      begun ∙ ap₂ (λ (ys : List Slot) (ks : List (List ℕ)). record v { duties = record start { slots = ys; collected = ks } }) (set-set start.slots s x (phased_slot start s (phase_taken shape (j + 1)))) (set-set start.collected start_page ws (ws ++ n ∷ []))
+
+  pub taken_quiet : (j : ℕ) → j < width shape → phase_taken shape j ≡ Quiet j
+  taken_quiet j lt = ap (λ b. cond b Free (Quiet j)) (ne_eqb j (width shape) (λ e. absurd (omega arith)))
+
+  -- the same with j words taken, whatever the phase is then
+  pub word_more : (u w : View) (j n : ℕ) (ws : List ℕ) → j < width shape → u ≡ drained_to v s (phase_taken shape j) ws → w ≡ view_after shape (Drain s) u n → w ≡ drained_to v s (phase_taken shape (j + 1)) (ws ++ n ∷ [])
+  word_more u w j n ws lt was now = now ∙ ap (λ (y : View). view_after shape (Drain s) y n) (was ∙ ap (λ (ph : SlotPhase). drained_to v s ph ws) (taken_quiet j lt)) ∙ quiet_more j n ws
+
+  -- the slot as it is being drained
+  pub slot_drained : (u : View) (j : ℕ) (ws : List ℕ) → j < width shape → u ≡ drained_to v s (phase_taken shape j) ws → (slot_at u.duties s).phase ≡ Quiet j
+  slot_drained u j ws lt was = ap (λ (y : View). (slot_at y.duties s).phase) was ∙ (ap (λ (y : Slot). y.phase) (get_or-set_same start.slots s (phased_slot start s (phase_taken shape j)) no_slot within) ∙ taken_quiet j lt)
+
+  -- at the start no word is taken
+  pub none_taken : 0 < width shape → (slot_at start s).phase ≡ Quiet 0 → collected_of start start_page ≡ [] → v ≡ drained_to v s (phase_taken shape 0) []
+  none_taken wide quiet none =
+      let x : phased_slot start s (phase_taken shape 0) ≡ slot_at start s = ap (phased_slot start s) (taken_quiet 0 wide ∙ sym quiet) in
+      ap₂ (λ (ys : List Slot) (ks : List (List ℕ)). record v { duties = record start { slots = ys; collected = ks } })
+      (sym (set-get_or start.slots s no_slot) ∙ ap (set start.slots s) (sym x))
+      (sym (set-get_or start.collected start_page []) ∙ ap (set start.collected start_page) none)
+
+-- after the last word the slot is free
+pub all_taken : (shape : PageShape) (n : ℕ) → n ≡ width shape → phase_taken shape n ≡ Free
+all_taken shape n e = ap (λ b. cond b Free (Quiet n)) (eq-eqb n (width shape) e)

@@ -1,5 +1,5 @@
 -- What an act of a record leaves as it was: the keeper's duties, the other actors, the pages that are collected.
-use Rattle.std.proofs.Common.{◌≡◌, ℕ, ◌+◌, ◌*◌, ◌/◌, ◌%◌, ◌^◌, ◌<◌, ◌≤◌, ◌⊎◌, ◌↔◌, cond, nat_lt, List, length, get_or, set, sym, refl, ap, ◌∙◌, subst, inl, inr, ⊎_elim, arith}
+use Rattle.std.proofs.Common.{◌≡◌, ℕ, ◌+◌, ◌*◌, ◌/◌, ◌%◌, ◌^◌, ◌<◌, ◌≤◌, ◌⊎◌, ◌↔◌, cond, nat_lt, List, length, get_or, set, sym, refl, ap, ◌∙◌, subst, inl, inr, ⊎_elim, arith, ◌≢◌, le_refl, length-set, get_or-set_same, get_or-set_other}
 use mathlib.Core.Option.{some}
 use lib.ListN.{get_elem?}
 use Rattle.spie_base.specs.declared.PageShape.{PageShape}
@@ -8,11 +8,14 @@ use Rattle.gate_core.specs.declared.states.SlotPhase.{SlotPhase}
 use Rattle.gate_core.specs.declared.states.SlotPhase.TheVariants.{Free, Open, Sealed, Quiet}
 use Rattle.bloom_page.specs.Bits.{bit_in}
 use Rattle.gate_core.specs.Marks.{width, size}
-use Rattle.gate_core.specs.Views.{Pass, Duties, View, slot_at, collected_of}
-use Rattle.gate_core.specs.Acts.{gate_place, bit_place}
-use Rattle.gate_core.specs.Invariant.{total, in_slot, pass_role, keeper_role, is_pass, is_keeper, seal_bit, HasPage, IsLive, taken, page_bit, HasSet, Recorded, Marked, IsCollected, SlotsFit, ActorFits, PlaneFits}
+use Rattle.gate_core.specs.Views.{Pass, Duties, View, slot_at, collected_of, Spent}
+use Rattle.gate_core.specs.Acts.{gate_place, bit_place, moved_to}
+use Rattle.gate_core.specs.Invariant.{total, in_slot, pass_role, keeper_role, is_pass, is_keeper, seal_bit, HasPage, IsLive, taken, page_bit, HasSet, Recorded, Marked, IsCollected, SlotsFit, ActorFits, PlaneFits, StateFits, IsLast, PlaneInvariant}
 use Rattle.hash_family.specs.Entries.{IsMarked}
-use Rattle.gate_core.proofs.Lists.{at_set, some_set, some_unset, total-set}
+use mathlib.Core.Logic.{dite}
+use native.Mathlib.Decide.{ℕ_discrete}
+use Rattle.gate_core.specs.declared.states.PassState.{PassState}
+use Rattle.gate_core.proofs.Lists.{at_set, some_set, some_unset, total-set, set_here, set_else, same_at}
 
 -- one actor's view becomes w, with the same duties
 pub record Turns (shape : PageShape) (d : Duties) (v w : View) : Type 0 where
@@ -106,3 +109,67 @@ module _ (shape : PageShape) (words words' : List ℕ) (views : List View) (d : 
     one_number = one_number_still;
     one_keeper = same_keeper ∙ f.one_keeper;
   }
+
+-- ---- the plane invariant after such an act
+
+-- the act of an actor whose duties stay, put back into the plane invariant
+pub turned : (shape : PageShape) (words words' : List ℕ) (views : List View) (r : PlaneInvariant shape words views) (id : ℕ) (v w : View) → get_elem? views id ≡ some v → Turns shape r.head.duties v w
+    → ((mine' : List Entry) → ((i : ℕ) (e : Entry) → i < length r.head.entries → get_elem? mine' i ≡ some e → get_elem? r.head.entries i ≡ some e) → length r.head.entries ≤ length mine' → PlaneFits shape words' (set views id w) r.head.duties mine')
+    → PlaneInvariant shape words' (set views id w)
+turned shape words words' views r id v w there t make = dite (ℕ_discrete r.place id)
+    (λ e. let is : r.head ≡ v = same_at views id r.head v (subst (λ (k : ℕ). get_elem? views k ≡ some r.head) e r.there) there in record {
+      place = id;
+      head = w;
+      there = set_here views id w v there;
+      keeps = t.role ∙ (ap (λ (u : View). u.role) (sym is) ∙ r.keeps);
+      fits = subst (λ (d : Duties). PlaneFits shape words' (set views id w) d w.entries) (ap (λ (u : View). u.duties) is ∙ sym t.duties)
+          (make w.entries (subst (λ (es : List Entry). (i : ℕ) (e : Entry) → i < length es → get_elem? w.entries i ≡ some e → get_elem? es i ≡ some e) (ap (λ (u : View). u.entries) (sym is)) t.first)
+          (subst (λ (es : List Entry). length es ≤ length w.entries) (ap (λ (u : View). u.entries) (sym is)) t.longer));
+    })
+    (λ ne. record {
+      place = r.place;
+      head = r.head;
+      there = set_else views id r.place w ne ∙ r.there;
+      keeps = r.keeps;
+      fits = make r.head.entries (λ i e lt at. at) (le_refl (length r.head.entries));
+    })
+
+-- an act on a gate, or on no word: bit words stay
+module _ (shape : PageShape) (words : List ℕ) (views : List View) (r : PlaneInvariant shape words views) (id : ℕ) (v w : View) (there : get_elem? views id ≡ some v) (t : Turns shape r.head.duties v w)
+    (takes : (s p : ℕ) → s < 4 → HasPage (slot_at r.head.duties s).phase → IsMarked shape w.entries (slot_at r.head.duties s).page p ⊎ HasSet shape w.state s p → IsMarked shape v.entries (slot_at r.head.duties s).page p ⊎ HasSet shape v.state s p) where
+  marked_back : (s p : ℕ) → s < 4 → HasPage (slot_at r.head.duties s).phase → Marked shape (set views id w) (slot_at r.head.duties s).page s p → Marked shape views (slot_at r.head.duties s).page s p
+  marked_back s p near stands m = let page : ℕ = (slot_at r.head.duties s).page in ⊎_elim (λ x. x) (λ x. absurd x)
+      (some_unset (λ u. IsMarked shape u.entries page p ⊎ HasSet shape u.state s p) (λ u. IsMarked shape u.entries page p ⊎ HasSet shape u.state s p) ⊥ views id v w there (λ u x. x) (λ x. inl (takes s p near stands x)) m)
+
+  pub quiet_act : (words' : List ℕ) → length words' ≡ length words → get_or words' 0 0 ≡ get_or words 0 0 → ((i : ℕ) → 5 ≤ i → get_or words' i 0 ≡ get_or words i 0)
+      → ((s : ℕ) → s < 4 → get_or words' (gate_place s) 0 ≡ total (in_slot s) (set views id w) + seal_bit (slot_at r.head.duties s).phase * 65536 + (slot_at r.head.duties s).page * 4294967296) → PlaneInvariant shape words' (set views id w)
+  quiet_act words' long current bits gates = let d : Duties = r.head.duties in turned shape words words' views r id v w there t (λ mine' first longer.
+      acted shape words words' views d r.head.entries mine' id v w r.fits there t long current gates (λ s i near lt dead. bits (bit_place shape s i) (omega arith))
+      (λ s near stands p small. let same = page_bit_same shape words words' d s p (bits (bit_place shape s (p / 64)) (omega arith)) in let old = r.fits.slot_words s near stands p small in
+      ((λ b. marked_still shape words words' views d r.head.entries mine' id v w r.fits there t s p near stands (old.0 (sym same ∙ b))), λ m. same ∙ old.1 (marked_back s p near stands m)))
+      first longer)
+
+  -- the gate of s becomes x
+  pub gate_act : (s x : ℕ) → s < 4 → x ≡ total (in_slot s) (set views id w) + seal_bit (slot_at r.head.duties s).phase * 65536 + (slot_at r.head.duties s).page * 4294967296
+      → ((o : ℕ) → o ≢ s → total (in_slot o) (set views id w) ≡ total (in_slot o) views) → PlaneInvariant shape (set words (gate_place s) x) (set views id w)
+  gate_act s x near is others = let d : Duties = r.head.duties in quiet_act (set words (gate_place s) x) (length-set words (gate_place s) x) (get_or-set_other words (gate_place s) 0 x 0 (λ e. omega arith))
+      (λ i big. get_or-set_other words (gate_place s) i x 0 (λ e. omega arith))
+      (λ o small. dite (ℕ_discrete o s)
+      (λ e. subst (λ (k : ℕ). get_or (set words (gate_place s) x) (gate_place k) 0 ≡ total (in_slot k) (set views id w) + seal_bit (slot_at d k).phase * 65536 + (slot_at d k).page * 4294967296) (sym e)
+      (get_or-set_same words (gate_place s) x 0 (let a = r.fits.long in omega arith) ∙ is))
+      (λ ne. let a = others o ne in let b = r.fits.gates o small in get_or-set_other words (gate_place s) (gate_place o) x 0 (λ e. ne (omega arith)) ∙ (b ∙ (omega arith))))
+
+-- a new state for the actor, nothing else
+pub restaged : (shape : PageShape) (d : Duties) (v : View) (st : PassState) → ActorFits shape d v → StateFits shape d v.floor st → (v.role ≡ Pass → IsLast v.entries st) → ¬ (v.role ≡ Spent)
+    → ((s p : ℕ) → HasSet shape v.state s p → HasSet shape st s p) → Turns shape d v (moved_to v st)
+restaged shape d v st k fits last alive gives = record {
+  role = refl;
+  number = refl;
+  duties = refl;
+  actor = record { state = fits; entries = k.entries; ordered = k.ordered; last = last; visits = k.visits; floor = k.floor; number = k.number; base = k.base; gone = λ e. absurd (alive e) };
+  kept = λ i e at. at;
+  first = λ i e lt at. at;
+  longer = le_refl (length v.entries);
+  fresh = λ i e at. inl at;
+  gives = λ s p near stands x. ⊎_elim inl (λ h. inr (gives s p h)) x;
+}

@@ -15,7 +15,7 @@ use Rattle.gate_core.specs.Views.{Visit, Slot, no_slot, Duties, slot_at}
 use Rattle.gate_core.specs.Invariant.{taken, PlaneInvariant}
 use Rattle.gate_core.specs.Kept.{Notes, notes_of, duties_of, views_from, views_of, core_of, paid, paid_by, HasLogRoom, HasDeskRoom}
 use Rattle.gate_core.specs.Sound.{IsSound, IsSameDesk, HasLists}
-use Rattle.gate_core.proofs.DeskActs.{desk_fits}
+use Rattle.gate_core.proofs.KeeperSteps.{desk_fits}
 
 same_duties : (desk desk' : Desk) (passes : ℕ) → IsSameDesk desk desk' → duties_of desk' passes ≡ duties_of desk passes
 same_duties desk desk' passes same = let e = same.slots in let f = same.next in let g = same.pointed in let h = ap (map (λ (v : Vec ℕ Global). v.items)) same.collected in let i = same.probes in let j = same.noted in let k = same.noted_with in cc

@@ -1,5 +1,5 @@
 -- How many are inside a slot, by its gate and by the keeper's count.
-use Rattle.std.proofs.Common.{◌≡◌, ℕ, ◌+◌, ◌<◌, ◌≤◌, List, [], ◌∷◌, get_or, set, sym, refl, ap, ⊎_elim, arith}
+use Rattle.std.proofs.Common.{◌≡◌, ℕ, ◌+◌, ◌<◌, ◌≤◌, List, [], ◌∷◌, get_or, set, sym, refl, ap, ⊎_elim, arith, ◌≢◌, cond, eqb}
 use mathlib.Core.Option.{some}
 use lib.ListN.{get_elem?}
 use Rattle.spie_base.specs.declared.PageShape.{PageShape}
@@ -7,11 +7,38 @@ use Rattle.spie_base.specs.declared.types.Entry.{Entry}
 use Rattle.gate_core.specs.declared.states.PassState.{PassState}
 use Rattle.gate_core.specs.declared.states.PassState.TheVariants.{Idle, Looked, Inside, Visiting}
 use Rattle.gate_core.specs.Views.{Role, Spent, Pass, Keeper, Duties, View, blank, slot_at}
-use Rattle.gate_core.specs.Acts.{inside_of, gate_place, busy}
+use Rattle.gate_core.specs.Acts.{inside_of, gate_place, busy, seal_of, page_of}
 use Rattle.gate_core.specs.Invariant.{total, counts_in, in_slot, pass_role, is_pass, is_keeper, keeper_role, seal_bit, PlaneFits}
 use Rattle.gate_core.proofs.Lists.{at_set, total-set, total_le, term_le, terms_le}
-use Rattle.gate_core.proofs.Gates.{gate_inside, sealed_two}
-use Rattle.gate_core.proofs.Keeps.{crowd, one_at_most}
+use Rattle.gate_core.proofs.Gates.{gate_inside, sealed_two, gate_seal, gate_page, tested}
+
+-- ---- how many can be inside
+
+pub one_at_most : (s : ℕ) (st : PassState) → counts_in s st ≤ 1
+one_at_most s Idle = omega arith
+one_at_most s (Looked t) = omega arith
+one_at_most s (Inside t page sig m) = tested (λ x. x ≤ 1) t s 1 0 (λ _. omega arith) (λ _. omega arith)
+one_at_most s (Visiting t gate) = tested (λ x. x ≤ 1) t s 1 0 (λ _. omega arith) (λ _. omega arith)
+
+counted : (s : ℕ) (role : Role) (st : PassState) → (role ≡ Spent → st ≡ Idle) → counts_in s st ≤ pass_role role + keeper_role role
+counted s Spent st idle = let e : counts_in s st ≡ 0 = ap (counts_in s) (idle refl) in omega arith
+counted s Pass st idle = one_at_most s st
+counted s Keeper st idle = one_at_most s st
+
+pub crowd : (shape : PageShape) (words : List ℕ) (views : List View) (d : Duties) (mine : List Entry) → PlaneFits shape words views d mine → (s : ℕ) → total (in_slot s) views ≤ 17
+crowd shape words views d mine f s = let a = total_le (in_slot s) is_pass is_keeper views (λ j v at. let k = f.actors j v at in counted s v.role v.state (λ e. ap (λ (u : View). u.state) (k.gone e))) in let b = f.out in let c = f.few in let e = f.one_keeper in omega arith
+
+-- whether the actor of one slot is counted in another
+abbrev pub hit : ℕ → ℕ → ℕ
+hit t s = cond (eqb t s) 1 0
+
+pub hit_one : (t s : ℕ) → t ≡ s → hit t s ≡ 1
+hit_one t s e = tested (λ x. x ≡ 1) t s 1 0 (λ _. refl) (λ ne. absurd (ne e))
+
+pub hit_none : (s o : ℕ) → o ≢ s → hit s o ≡ 0
+hit_none s o ne = tested (λ x. x ≡ 0) s o 1 0 (λ e. absurd (ne (sym e))) (λ _. refl)
+
+-- ---- by the gate, and by the keeper's count
 
 busy_counts : (s : ℕ) (st : PassState) → counts_in s st ≤ busy st
 busy_counts s Idle = omega arith
@@ -22,6 +49,18 @@ busy_counts s (Visiting t gate) = one_at_most s (Visiting t gate)
 -- the gate counts those that are Inside or Visiting the slot
 pub gate_counts : (shape : PageShape) (words : List ℕ) (views : List View) (d : Duties) (mine : List Entry) → PlaneFits shape words views d mine → (s : ℕ) → s < 4 → inside_of (get_or words (gate_place s) 0) ≡ total (in_slot s) views
 gate_counts shape words views d mine f s near = let c = crowd shape words views d mine f s in gate_inside (total (in_slot s) views) (seal_bit (slot_at d s).phase) (slot_at d s).page (get_or words (gate_place s) 0) (omega arith) (sealed_two (slot_at d s).phase) (f.gates s near)
+
+-- the parts of a gate word, and what it is at most
+module _ (shape : PageShape) (words : List ℕ) (views : List View) (d : Duties) (mine : List Entry) (f : PlaneFits shape words views d mine) (s : ℕ) (near : s < 4) where
+  abbrev gate : ℕ
+  gate = get_or words (gate_place s) 0
+
+  pub gate_parts : (inside_of gate ≡ total (in_slot s) views) × (seal_of gate ≡ seal_bit (slot_at d s).phase) × (page_of gate ≡ (slot_at d s).page)
+  gate_parts = let g = f.gates s near in let a : ℕ = total (in_slot s) views in let c = crowd shape words views d mine f s in let few : a < 65536 = omega arith in let two = sealed_two (slot_at d s).phase in
+      (gate_inside a (seal_bit (slot_at d s).phase) (slot_at d s).page gate few two g, gate_seal a (seal_bit (slot_at d s).phase) (slot_at d s).page gate few two g, gate_page a (seal_bit (slot_at d s).phase) (slot_at d s).page gate few two g)
+
+  pub gate_small : gate + 1 < 18446744073709551616
+  gate_small = let g = f.gates s near in let c = crowd shape words views d mine f s in let two = sealed_two (slot_at d s).phase in let p = f.slots.page_within s near in let top = f.slots.fits in omega arith
 
 module _ (shape : PageShape) (words : List ℕ) (views : List View) (id : ℕ) (v : View) (there : get_elem? views id ≡ some v) (role : v.role ≡ Keeper) (f : PlaneFits shape words views v.duties v.entries) (s : ℕ) where
   -- of those inside, all but the keeper are passes

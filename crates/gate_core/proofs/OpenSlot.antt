@@ -1,5 +1,5 @@
--- The slot that is open, as the keeper's slots change.
-use Rattle.std.proofs.Common.{◌≡◌, ℕ, zero, suc, ◌+◌, ◌<◌, ◌≤◌, ◌≢◌, ◌⊎◌, List, [], ◌∷◌, length, get_or, sym, refl, ap, ◌∙◌, subst, inl, inr, ⊎_elim, arith, length-set}
+-- The slot that is open: how it is found, and as the keeper's slots change.
+use Rattle.std.proofs.Common.{◌≡◌, ℕ, zero, suc, ◌+◌, ◌<◌, ◌≤◌, ◌≢◌, ◌⊎◌, List, [], ◌∷◌, length, get_or, sym, refl, ap, ◌∙◌, subst, inl, inr, ⊎_elim, arith, length-set, drop}
 use Rattle.std.proofs.lemmas.Bool.{cases_lt}
 use Rattle.spie_base.specs.declared.PageShape.{PageShape}
 use Rattle.spie_base.specs.declared.types.Entry.{Entry}
@@ -8,8 +8,28 @@ use Rattle.gate_core.specs.declared.states.SlotPhase.TheVariants.{Free, Open, Se
 use Rattle.gate_core.specs.Views.{Slot, no_slot, Duties, View, slot_at}
 use Rattle.gate_core.specs.Acts.{if_open, open_among, open_slot, phased_slot, in_phase}
 use Rattle.gate_core.specs.Invariant.{PlaneFits}
+use Rattle.std.proofs.lemmas.List.{at_drop_more, at_drop_all}
 use Rattle.gate_core.proofs.Drawn.{one_open}
 use Rattle.gate_core.proofs.Slots.{open_is, phase_case, slot_else}
+
+-- ---- the look for the open slot
+
+if_shut : (ph : SlotPhase) (a b : ℕ) → ¬ (ph ≡ Open) → if_open ph a b ≡ b
+if_shut Free a b shut = refl
+if_shut Open a b shut = absurd (shut refl)
+if_shut Sealed a b shut = refl
+if_shut (Quiet next) a b shut = refl
+
+pub open_found : (xs : List Slot) (i : ℕ) (d : Slot) → i < length xs → (get_or xs i d).phase ≡ Open → open_among (drop i xs) i ≡ i
+open_found xs i d lt e = at_drop_more (λ (l : List Slot). open_among l i) xs i d lt ∙ ap (λ (ph : SlotPhase). if_open ph i (open_among (drop (i + 1) xs) (i + 1))) e
+
+pub open_later : (xs : List Slot) (i : ℕ) (d : Slot) → i < length xs → ¬ ((get_or xs i d).phase ≡ Open) → open_among (drop i xs) i ≡ open_among (drop (i + 1) xs) (i + 1)
+open_later xs i d lt shut = at_drop_more (λ (l : List Slot). open_among l i) xs i d lt ∙ if_shut (get_or xs i d).phase i (open_among (drop (i + 1) xs) (i + 1)) shut
+
+pub open_none : (xs : List Slot) (i : ℕ) → length xs ≤ i → open_among (drop i xs) i ≡ i
+open_none xs i le = at_drop_all (λ (l : List Slot). open_among l i) xs i le
+
+-- ---- as slots change
 
 either : (ph : SlotPhase) (a b : ℕ) → (if_open ph a b ≡ a) ⊎ (if_open ph a b ≡ b)
 either Free a b = inr refl

@@ -31,9 +31,9 @@ use Rattle.gate_core.proofs.Lists.{at_within, same_at}
 use Rattle.gate_core.proofs.Bits.{position_below}
 use Rattle.gate_core.proofs.Frame.{not_both}
 use Rattle.gate_core.proofs.KeptViews.{length-views_from}
-use Rattle.gate_core.proofs.KeptActs.{viewed}
+use Rattle.gate_core.proofs.MachineSteps.{viewed}
 use Rattle.gate_core.proofs.Members.{item_at, read_item, any_here, any_where, of_actor, to_actor}
-use Rattle.gate_core.proofs.DeskActs.{desk_duties, own_entries, desk_fits}
+use Rattle.gate_core.proofs.KeeperSteps.{desk_duties, own_entries, desk_fits}
 use Rattle.gate_core.proofs.CoreFacts.{duties_is, page_words_are}
 use Rattle.gate_core.proofs.PageBits.{first_passing}
 

@@ -1,30 +1,34 @@
--- `point` and `probe` keep the plane invariant.
-use Rattle.std.proofs.Common.{◌≡◌, ℕ, ◌/◌, ◌%◌, ◌<◌, ◌≤◌, ◌==◌, true, List, [], ◌∷◌, ◌++◌, length, get_or, set, sym, refl, ◌∙◌, subst, inl, inr, ⊎_elim, arith, le_refl, length-set, get_or-set_same, get_or-set_other}
-use Rattle.std.specs.Int.{bit_at}
-use Rattle.std.proofs.lemmas.Bool.{eqb-true, eq-eqb, false≢true}
-use Rattle.std.proofs.lemmas.List.{set-get_or}
+-- `point`: the current slot is the open one.
+use Rattle.std.proofs.Common.{◌≡◌, ℕ, ◌/◌, ◌<◌, ◌≤◌, true, List, length, get_or, set, sym, refl, ◌∙◌, subst, inl, inr, ⊎_elim, arith, length-set, get_or-set_same, get_or-set_other, ◌-◌, map, ap}
 use mathlib.Core.Option.{some}
 use lib.ListN.{get_elem?}
 use Rattle.spie_base.specs.declared.PageShape.{PageShape}
 use Rattle.gate_core.specs.declared.states.PassState.{PassState}
 use Rattle.gate_core.specs.declared.states.PassState.TheVariants.{Idle, Looked, Inside, Visiting}
-use Rattle.gate_core.specs.declared.states.SlotPhase.{SlotPhase}
-use Rattle.gate_core.specs.declared.states.SlotPhase.TheVariants.{Free, Open, Sealed, Quiet}
-use Rattle.gate_core.specs.Marks.{size}
-use Rattle.gate_core.specs.Views.{Probed, Keeper, Duties, View, slot_at}
-use Rattle.gate_core.specs.Acts.{gate_place, bit_place, open_slot, with_duties, after_probe, CanProbe}
-use Rattle.gate_core.specs.Invariant.{HasPage, taken, page_bit, StateFits, SlotsFit, ActorFits, ProbeFits, PlaneFits, PlaneInvariant}
-use Rattle.gate_core.proofs.Lists.{at_snoc}
+use Rattle.gate_core.specs.declared.states.SlotPhase.TheVariants.{Open}
+use Rattle.gate_core.specs.Marks.{width}
+use Rattle.gate_core.specs.Views.{Keeper, Duties, View, slot_at, Slot}
+use Rattle.gate_core.specs.Acts.{gate_place, bit_place, open_slot, with_duties, open_among}
+use Rattle.gate_core.specs.Invariant.{HasPage, page_bit, StateFits, SlotsFit, ActorFits, PlaneFits, PlaneInvariant}
+use Rattle.gate_core.specs.declared.steps.Act.TheVariants.{Point}
+use Rattle.gate_core.specs.declared.steps.StepAnswer.{StepAnswer}
+use Rattle.gate_core.specs.declared.steps.StepAnswer.TheVariants as answer
+use Rattle.gate_core.specs.declared.states.ActorState.TheVariants as actor_state
+use Rattle.gate_core.specs.declared.core_data.CoreData.{CoreData}
+use Rattle.gate_core.specs.declared.core_data.Desk.{Desk}
+use Rattle.gate_core.specs.Kept.{notes_of, duties_of, view_of, HasDeskRoom, Holds, DoesAct}
 use Rattle.gate_core.proofs.Frame.{page_bit_same}
-use Rattle.gate_core.proofs.Bits.{page_bit_none}
 use Rattle.gate_core.proofs.Slots.{open_is}
-use Rattle.gate_core.proofs.Duty.{duty_kept}
+use Rattle.gate_core.proofs.Duty.{duty_kept, keeper_fits}
+use Rattle.gate_core.proofs.MachineSteps.{desk_less, does_nothing, KeepsPlane}
+use Rattle.gate_core.proofs.KeeperSteps.{first_of, DeskBecomes, desk_is, desk_framed, desk_act}
+use Rattle.gate_core.proofs.SlotRoom.{HasFamilies}
+
+-- ---- the act keeps the plane invariant
 
 module _ (shape : PageShape) (words : List ℕ) (views : List View) (id : ℕ) (v : View) (there : get_elem? views id ≡ some v) (role : v.role ≡ Keeper) (f : PlaneFits shape words views v.duties v.entries) where
   abbrev d : Duties
   d = v.duties
-
-  -- ---- point
 
   module _ (can : open_slot d < 4) where
     abbrev s : ℕ
@@ -103,87 +107,36 @@ module _ (shape : PageShape) (words : List ℕ) (views : List View) (id : ℕ) (
       out = refl;
     }
 
-  -- ---- probe
+-- the same, whoever does it
+pub point_keeps : KeepsPlane Point
+point_keeps shape words views r id v there alive can = points shape words views id v there can.0 (keeper_fits shape words views r id v there can.0) can.1
 
-  module _ (s p : ℕ) (near : s < 4) (below : p < size shape) (can : CanProbe (slot_at d s).phase) where
-    abbrev n : ℕ
-    n = get_or words (bit_place shape s (p / 64)) 0
+-- ---- the act of the machine, from what it wrote
 
-    probe_stands : (ph : SlotPhase) → CanProbe ph → HasPage ph × (taken ph ≡ 0)
-    probe_stands Free c = absurd c
-    probe_stands Open c = (tt, refl)
-    probe_stands Sealed c = (tt, refl)
-    probe_stands (Quiet next) c = (tt, c)
+-- not enabled
+module _ (m m' : CoreData) (h : Holds m) (reply : StepAnswer) (is : m' ≡ record m { room = m.room - 1 })
+    (answers : reply ≡ answer.NotEnabled (actor_state.Keeper (map (λ (x : Slot). x.phase) m.desk.slots))) where
+  pub point_declined : ¬ (open_among m.desk.slots 0 < 4) → DoesAct m m' 0 Point reply
+  point_declined shut = does_nothing m m' 0 (first_of m h).seat Point (first_of m h).there reply h (λ can. shut can.1) is answers
 
-    abbrev seen : Probed
-    seen = record { page = (slot_at d s).page; at = p; bit = bit_at n (p % 64) == 1; known = length v.entries }
+room_pointed : (wide : ℕ) (desk : Desk) (room pointed : ℕ) → HasDeskRoom wide desk room → HasDeskRoom wide (record desk { pointed = pointed }) (room - 1)
+room_pointed wide desk room pointed h = let a = desk_less wide desk room h in record { probes = a.probes; pages = a.pages; spare = a.spare; spare_words = a.spare_words; page_words = a.page_words }
 
-    abbrev e' : Duties
-    e' = record d { probes = d.probes ++ seen ∷ [] }
+module _ (m m' : CoreData) (h : Holds m) (some_room : 1 ≤ m.room) (reply : StepAnswer) where
+  abbrev k : ℕ
+  k = open_among m.desk.slots 0
 
-    slots'' : SlotsFit shape e'
-    slots'' = let k = f.slots in record {
-      four = k.four;
-      pointed_slot = k.pointed_slot;
-      pointed_used = k.pointed_used;
-      open_last = k.open_last;
-      stands_used = k.stands_used;
-      used_below = k.used_below;
-      used_apart = k.used_apart;
-      page_within = k.page_within;
-      placed = k.placed;
-      one_list = k.one_list;
-      taken_words = k.taken_words;
-      taken_short = k.taken_short;
-      fits = k.fits;
-    }
+  pointed_at : k < 4 → m'.words.items ≡ set m.words.items 0 k → DeskBecomes m m' (record m.desk { pointed = k }) → reply ≡ answer.Pointed k → DoesAct m m' 0 Point reply
+  pointed_at near words others answers =
+      let e = sym (desk_is m m' (record m.desk { pointed = k }) others) in
+      desk_act m m' (first_of m h).seat Point (first_of m h).there point_keeps reply h (refl, near) (record {
+        words = words;
+        others = desk_framed m m' (record m.desk { pointed = k }) others;
+        duties = ap (λ (d : Desk). let v : View = record (view_of (notes_of m) 0 (first_of m h).seat.state) { duties = duties_of d (length m.seats.items - 1) } in v) (sym e);
+        none = refl;
+        room = subst (λ (d : Desk). HasDeskRoom (width m.shape) d (m.room - 1)) e (room_pointed (width m.shape) m.desk m.room k h.desk);
+        families = subst (HasFamilies m.shape) e h.families;
+      }) answers
 
-    state'' : (floor : ℕ) (st : PassState) → StateFits shape d floor st → StateFits shape e' floor st
-    state'' floor Idle k = k
-    state'' floor (Looked t) k = k
-    state'' floor (Inside t page sig m) k = k
-    state'' floor (Visiting t gate) k = k
-
-    actor'' : (u : View) → ActorFits shape d u → ActorFits shape e' u
-    actor'' u k = record {
-      state = state'' u.floor u.state k.state;
-      entries = k.entries;
-      ordered = k.ordered;
-      last = k.last;
-      visits = λ i x at. let z = k.visits i x at in record { sealed_gate = z.sealed_gate; below = z.below; from_floor = z.from_floor; not_open = z.not_open };
-      floor = k.floor;
-      number = k.number;
-      base = k.base;
-      gone = k.gone;
-    }
-
-    is_bit : page_bit shape words d s p ≡ bit_at n (p % 64)
-    is_bit = let k = probe_stands (slot_at d s).phase can in page_bit_none shape words d s p (f.slots.taken_words s near k.0 ∙ k.1)
-
-    fit : ProbeFits shape words e' v.entries seen
-    fit = let k = probe_stands (slot_at d s).phase can in record {
-      page_below = f.slots.used_below s near (f.slots.stands_used s near k.0);
-      at_below = below;
-      known = le_refl (length v.entries);
-      seen = λ one. inr (s, near, k.0, refl, is_bit ∙ eqb-true (bit_at n (p % 64)) 1 one);
-      unseen = λ none i e lt at of among. let one = (f.slot_words s near k.0 p below).1 (id, v, there, inl (i, e, at, of, among)) in absurd (false≢true (sym none ∙ eq-eqb (bit_at n (p % 64)) 1 (sym is_bit ∙ one)));
-    }
-
-    probes_here : PlaneInvariant shape words (set views id (with_duties v e'))
-    probes_here = duty_kept shape words words views id v e' there role f record {
-      long = f.long;
-      current_slot = f.current_slot;
-      gates = f.gates;
-      slots = slots'';
-      actors = λ j u at. actor'' u (f.actors j u at);
-      slot_words = f.slot_words;
-      collected_words = f.collected_words;
-      drained_words = f.drained_words;
-      free_words = f.free_words;
-      probes = λ i x at. ⊎_elim (λ old. let k = f.probes i x old in record { page_below = k.page_below; at_below = k.at_below; known = k.known; seen = k.seen; unseen = k.unseen }) (λ t. subst (ProbeFits shape words e' v.entries) t.1 fit) (at_snoc d.probes seen x i at);
-      noted = f.noted;
-      out = refl;
-    }
-
-    pub probes : PlaneInvariant shape (set words (bit_place shape s (p / 64)) n) (set views id (after_probe v s p n))
-    probes = subst (λ (ws : List ℕ). PlaneInvariant shape ws (set views id (after_probe v s p n))) (sym (set-get_or words (bit_place shape s (p / 64)) 0)) probes_here
+  pub point_done : (slot : ℕ) → slot ≡ k → slot < 4 → m'.words.items ≡ set m.words.items 0 slot → DeskBecomes m m' (record m.desk { pointed = slot }) → reply ≡ answer.Pointed slot → DoesAct m m' 0 Point reply
+  point_done slot e = let P : ℕ → Type 0 = λ i. i < 4 → m'.words.items ≡ set m.words.items 0 i → DeskBecomes m m' (record m.desk { pointed = i }) → reply ≡ answer.Pointed i → DoesAct m m' 0 Point reply in subst P (sym e) pointed_at

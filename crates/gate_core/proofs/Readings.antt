@@ -9,7 +9,7 @@ use Rattle.gate_core.specs.Acts.{seal_of, page_of, gate_place, bit_place, CanLoo
 use Rattle.gate_core.specs.Invariant.{total, in_slot, seal_bit, live_bit, IsLive, IsRising, PlaneFits, Met}
 use Rattle.gate_core.proofs.Duty.{keeper_fits}
 use Rattle.gate_core.proofs.Gates.{gate_seal, gate_page, sealed_two}
-use Rattle.gate_core.proofs.Keeps.{crowd}
+use Rattle.gate_core.proofs.Inside.{crowd}
 use Rattle.gate_core.proofs.Alone.{live_alone}
 
 -- the pages of a pass rise

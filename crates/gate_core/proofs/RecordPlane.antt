@@ -20,11 +20,11 @@ use Rattle.gate_core.specs.Invariant.{total, in_slot, seal_bit, StateFits, Plane
 use Rattle.gate_core.specs.Kept.{notes_of, duties_of, view_of, views_of, HasMarks, Holds}
 use Rattle.gate_core.specs.Writes.{no_seat, seat_at}
 use Rattle.gate_core.proofs.Duty.{keeper_fits}
-use Rattle.gate_core.proofs.Keeps.{crowd}
+use Rattle.gate_core.proofs.Inside.{crowd}
 use Rattle.gate_core.proofs.Gates.{gate_page, sealed_two}
 use Rattle.gate_core.proofs.Bits.{position_below}
-use Rattle.gate_core.proofs.KeptActs.{viewed}
-use Rattle.gate_core.proofs.RecordFacts.{there_at}
+use Rattle.gate_core.proofs.MachineSteps.{viewed}
+use Rattle.gate_core.proofs.RecordSteps.{there_at}
 
 module _ (m : CoreData) (holds : Holds m) where
   abbrev d : Duties

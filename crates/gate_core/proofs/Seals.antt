@@ -1,5 +1,5 @@
--- `seal` keeps the plane invariant.
-use Rattle.std.proofs.Common.{◌≡◌, ℕ, ◌+◌, ◌-◌, ◌*◌, ◌/◌, ◌%◌, ◌^◌, ◌<◌, ◌≤◌, ◌≢◌, ◌⊎◌, ◌↔◌, bit_or, bit_and, List, [], length, get_or, set, sym, refl, ap, ◌∙◌, subst, inl, inr, ⊎_elim, arith, length-set, get_or-set_same, get_or-set_other}
+-- `seal`: of the open slot.
+use Rattle.std.proofs.Common.{◌≡◌, ℕ, ◌+◌, ◌-◌, ◌*◌, ◌/◌, ◌%◌, ◌^◌, ◌<◌, ◌≤◌, ◌⊎◌, ◌↔◌, bit_or, List, length, get_or, set, sym, refl, ap, ◌∙◌, subst, inl, inr, ⊎_elim, arith, length-set, get_or-set_same, get_or-set_other, map}
 use Rattle.std.proofs.lemmas.Nat.{or_disjoint}
 use Rattle.std.proofs.lemmas.Nat.Bits.{and_pow}
 use mathlib.Core.Option.{some}
@@ -9,14 +9,28 @@ use Rattle.gate_core.specs.declared.states.PassState.{PassState}
 use Rattle.gate_core.specs.declared.states.PassState.TheVariants.{Idle, Looked, Inside, Visiting}
 use Rattle.gate_core.specs.declared.states.SlotPhase.TheVariants.{Free, Open, Sealed}
 use Rattle.bloom_page.specs.Bits.{bit_in}
-use Rattle.gate_core.specs.Views.{Spent, Keeper, Duties, View, slot_at, collected_of}
-use Rattle.gate_core.specs.Acts.{seal_of, gate_place, bit_place, open_slot, in_phase, with_duties}
+use Rattle.gate_core.specs.Views.{Spent, Keeper, Duties, View, slot_at, collected_of, Slot}
+use Rattle.gate_core.specs.Acts.{seal_of, gate_place, bit_place, open_slot, in_phase, with_duties, page_of, numbered, open_among}
 use Rattle.gate_core.specs.Invariant.{total, in_slot, is_pass, is_keeper, seal_bit, HasPage, IsLive, taken, page_bit, Marked, StateFits, ActorFits, SlotsFit, PlaneFits, PlaneInvariant}
+use Rattle.gate_core.specs.declared.steps.Act.TheVariants.{Seal}
+use Rattle.gate_core.specs.declared.steps.StepAnswer.{StepAnswer}
+use Rattle.gate_core.specs.declared.steps.StepAnswer.TheVariants as answer
+use Rattle.gate_core.specs.declared.states.ActorState.TheVariants as actor_state
+use Rattle.gate_core.specs.declared.core_data.CoreData.{CoreData}
+use Rattle.gate_core.specs.declared.core_data.Desk.{Desk}
+use Rattle.gate_core.specs.Marks.{width}
+use Rattle.gate_core.specs.Kept.{notes_of, duties_of, view_of, HasDeskRoom, Holds, DoesAct}
+use Rattle.gate_core.specs.Desks.{phased}
 use Rattle.gate_core.proofs.Lists.{set_here}
 use Rattle.gate_core.proofs.Gates.{gate_seal, sealed_two}
 use Rattle.gate_core.proofs.Slots.{page_same, used_same, phase_case, rephased, open_is}
-use Rattle.gate_core.proofs.Duty.{total_same, marked_same, recorded_same, seats_then, numbers_then}
-use Rattle.gate_core.proofs.Keeps.{crowd}
+use Rattle.gate_core.proofs.Duty.{total_same, marked_same, recorded_same, seats_then, numbers_then, keeper_fits}
+use Rattle.gate_core.proofs.Inside.{crowd}
+use Rattle.gate_core.proofs.MachineSteps.{does_nothing, KeepsPlane}
+use Rattle.gate_core.proofs.KeeperSteps.{first_of, four_slots, DeskBecomes, desk_is, desk_framed, desk_act}
+use Rattle.gate_core.proofs.SlotRoom.{HasFamilies, room_phased, families_phased}
+
+-- ---- the act keeps the plane invariant
 
 pub sealed_word : (n : ℕ) → seal_of n ≡ 0 → bit_or n 65536 ≡ n + 65536
 sealed_word n e = or_disjoint n 65536 (and_pow n 16 ∙ (let b : n / 2 ^ 16 % 2 ≡ 0 = e in ap (λ (x : ℕ). x * 2 ^ 16) b))
@@ -142,3 +156,40 @@ module _ (shape : PageShape) (words : List ℕ) (views : List View) (r : PlaneIn
       one_keeper = total_same shape views id v d' there is_keeper refl ∙ f.one_keeper;
     };
   }
+
+-- the same, whoever does it
+pub seal_keeps : KeepsPlane Seal
+seal_keeps shape words views r id v there alive can = seals shape words views r id v there can.0 (keeper_fits shape words views r id v there can.0) can.1
+
+-- ---- the act of the machine, from what it wrote
+
+-- not enabled
+module _ (m m' : CoreData) (h : Holds m) (reply : StepAnswer) (is : m' ≡ record m { room = m.room - 1 })
+    (answers : reply ≡ answer.NotEnabled (actor_state.Keeper (map (λ (x : Slot). x.phase) m.desk.slots))) where
+  pub seal_declined : ¬ (open_among m.desk.slots 0 < 4) → DoesAct m m' 0 Seal reply
+  seal_declined shut = does_nothing m m' 0 (first_of m h).seat Seal (first_of m h).there reply h (λ can. shut can.1) is answers
+
+module _ (m m' : CoreData) (h : Holds m) (some_room : 1 ≤ m.room) (reply : StepAnswer) where
+  abbrev k : ℕ
+  k = open_among m.desk.slots 0
+
+  abbrev gate : ℕ
+  gate = get_or m.words.items (gate_place k) 0
+
+  sealed_at : k < 4 → m'.words.items ≡ set m.words.items (gate_place k) (bit_or gate 65536) → DeskBecomes m m' (phased m.desk k Sealed) → reply ≡ answer.Sealed (numbered (page_of gate)) → DoesAct m m' 0 Seal reply
+  sealed_at near words others answers =
+      let within : k < length m.desk.slots = let a = four_slots m h in omega arith in
+      let e = sym (desk_is m m' (phased m.desk k Sealed) others) in
+      desk_act m m' (first_of m h).seat Seal (first_of m h).there seal_keeps reply h (refl, near) (record {
+        words = words;
+        others = desk_framed m m' (phased m.desk k Sealed) others;
+        duties = ap (λ (d : Desk). let v : View = record (view_of (notes_of m) 0 (first_of m h).seat.state) { duties = duties_of d (length m.seats.items - 1) } in v) (sym e);
+        none = refl;
+        room = subst (λ (d : Desk). HasDeskRoom (width m.shape) d (m.room - 1)) e (room_phased (width m.shape) m.desk m.room k Sealed h.desk within some_room (omega arith));
+        families = subst (HasFamilies m.shape) e (families_phased m.shape m.desk k Sealed h.families within);
+      }) answers
+
+  pub seal_done : (slot : ℕ) → slot ≡ k → slot < 4 → m'.words.items ≡ set m.words.items (gate_place slot) (bit_or (get_or m.words.items (gate_place slot) 0) 65536) → DeskBecomes m m' (phased m.desk slot Sealed)
+      → reply ≡ answer.Sealed (numbered (page_of (get_or m.words.items (gate_place slot) 0))) → DoesAct m m' 0 Seal reply
+  seal_done slot e = let P : ℕ → Type 0 = λ i. i < 4 → m'.words.items ≡ set m.words.items (gate_place i) (bit_or (get_or m.words.items (gate_place i) 0) 65536) → DeskBecomes m m' (phased m.desk i Sealed)
+      → reply ≡ answer.Sealed (numbered (page_of (get_or m.words.items (gate_place i) 0))) → DoesAct m m' 0 Seal reply in subst P (sym e) sealed_at

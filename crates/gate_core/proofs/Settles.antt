@@ -1,7 +1,7 @@
--- `settle` keeps the plane invariant.
-use Rattle.std.proofs.Common.{◌≡◌, ℕ, ◌+◌, ◌*◌, ◌/◌, ◌%◌, ◌^◌, ◌<◌, ◌≤◌, ◌≢◌, ◌↔◌, cond, nat_lt, eqb, List, length, get_or, set, sym, refl, ap, ◌∙◌, subst, inl, inr, ⊎_elim, arith}
+-- `settle`: whether somebody is inside a sealed slot, and if nobody is, it is quiet.
+use Rattle.std.proofs.Common.{◌≡◌, ℕ, ◌+◌, ◌*◌, ◌/◌, ◌%◌, ◌^◌, ◌<◌, ◌≤◌, ◌≢◌, ◌↔◌, cond, nat_lt, List, length, get_or, set, sym, refl, ap, ◌∙◌, subst, inl, inr, ⊎_elim, arith, ◌-◌, ◌==◌, Bool, true, false, if◌then◌else◌, [], ◌∷◌, map}
 use Rattle.std.proofs.lemmas.List.{set-get_or}
-use mathlib.Core.Option.{some}
+use mathlib.Core.Option.{some, some-injective, some-ne-none}
 use lib.ListN.{get_elem?}
 use Rattle.spie_base.specs.declared.PageShape.{PageShape}
 use Rattle.gate_core.specs.declared.states.PassState.{PassState}
@@ -9,26 +9,35 @@ use Rattle.gate_core.specs.declared.states.PassState.TheVariants.{Idle, Looked, 
 use Rattle.gate_core.specs.declared.states.SlotPhase.{SlotPhase}
 use Rattle.gate_core.specs.declared.states.SlotPhase.TheVariants.{Free, Open, Sealed, Quiet}
 use Rattle.bloom_page.specs.Bits.{bit_in}
-use Rattle.gate_core.specs.Views.{Keeper, Duties, View, slot_at, collected_of}
+use Rattle.gate_core.specs.Views.{Keeper, Duties, View, slot_at, collected_of, Slot}
 use Rattle.gate_core.specs.Acts.{inside_of, gate_place, bit_place, in_phase, with_duties, busy, after_settle, IsSealed}
 use Rattle.gate_core.specs.Invariant.{total, counts_in, in_slot, seal_bit, HasPage, IsLive, taken, page_bit, Marked, StateFits, SlotsFit, ActorFits, PlaneFits, PlaneInvariant}
+use Rattle.gate_core.specs.declared.steps.Act.TheVariants.{Settle}
+use Rattle.gate_core.specs.declared.steps.StepAnswer.{StepAnswer}
+use Rattle.gate_core.specs.declared.steps.StepAnswer.TheVariants as answer
+use Rattle.gate_core.specs.declared.states.ActorState.TheVariants as actor_state
+use Rattle.gate_core.specs.declared.core_data.CoreData.{CoreData}
+use Rattle.gate_core.specs.declared.core_data.Desk.{Desk}
+use Rattle.gate_core.specs.declared.core_data.Seat.{Seat}
+use Rattle.gate_core.specs.Marks.{width}
+use Rattle.gate_core.specs.Kept.{notes_of, duties_of, view_of, HasDeskRoom, Holds, DoesAct}
+use Rattle.gate_core.specs.Desks.{slot_in, phased, settled, counted_out}
 use Rattle.gate_core.proofs.Lists.{term_le}
 use Rattle.gate_core.proofs.Gates.{tested}
 use Rattle.gate_core.proofs.Slots.{page_same, used_same, phase_case, rephased}
-use Rattle.gate_core.proofs.Duty.{duty_kept}
-use Rattle.gate_core.proofs.Inside.{gate_counts, few_inside}
+use Rattle.gate_core.proofs.Duty.{duty_kept, keeper_fits}
+use Rattle.gate_core.proofs.Inside.{hit, hit_one, gate_counts, few_inside}
+use Rattle.gate_core.proofs.MachineSteps.{desk_less, does_nothing, KeepsPlane}
+use Rattle.gate_core.proofs.KeeperSteps.{first_of, four_slots, desk_fits, desk_is, desk_framed, desk_only, word_read, desk_act}
+use Rattle.gate_core.proofs.SlotRoom.{HasFamilies, room_phased, families_phased}
+
+-- ---- the act keeps the plane invariant
 
 sealed_is : (ph : SlotPhase) → IsSealed ph → ph ≡ Sealed
 sealed_is Free k = absurd k
 sealed_is Open k = absurd k
 sealed_is Sealed k = refl
 sealed_is (Quiet next) k = absurd k
-
-abbrev hit : ℕ → ℕ → ℕ
-hit t s = cond (eqb t s) 1 0
-
-hit_one : (t s : ℕ) → t ≡ s → hit t s ≡ 1
-hit_one t s e = tested (λ x. x ≡ 1) t s 1 0 (λ _. refl) (λ ne. absurd (ne e))
 
 module _ (shape : PageShape) (words : List ℕ) (views : List View) (id : ℕ) (v : View) (there : get_elem? views id ≡ some v) (role : v.role ≡ Keeper) (f : PlaneFits shape words views v.duties v.entries) (s : ℕ) (near : s < 4) (can : IsSealed (slot_at v.duties s).phase) where
   abbrev d : Duties
@@ -194,3 +203,84 @@ module _ (shape : PageShape) (words : List ℕ) (views : List View) (id : ℕ) (
   pub settles : PlaneInvariant shape (set words (gate_place s) n) (set views id (after_settle v s n))
   settles = subst (λ (ws : List ℕ). PlaneInvariant shape ws (set views id (after_settle v s n))) (sym (set-get_or words (gate_place s) 0))
       (tested (λ (e : Duties). PlaneInvariant shape words (set views id (with_duties v e))) (inside_of n) 0 d2 d1 quiet (λ _. pending))
+
+-- the same, whoever does it
+pub settle_keeps : (s : ℕ) → KeepsPlane (Settle s)
+settle_keeps s shape words views r id v there alive can = settles shape words views id v there can.0 (keeper_fits shape words views r id v there can.0) s can.1 can.2
+
+-- ---- the act of the machine, from what it wrote
+
+pub few_seats : (m : CoreData) → Holds m → length m.seats.items ≤ 17
+few_seats m h = let a = (desk_fits m h).few in omega arith
+
+counted_is : (xs : List Seat) (x : Seat) → get_elem? xs 0 ≡ some x → counted_out xs ≡ length xs - 1 + busy x.state
+counted_is [] x e = absurd (some-ne-none x (sym e))
+counted_is (y ∷ ys) x e = ap (λ (z : Seat). length (y ∷ ys) - 1 + busy z.state) (some-injective y x e)
+
+abbrev noting : Desk → (gate out : ℕ) → Desk
+noting desk gate out = record desk { noted = gate; noted_with = out }
+
+room_noting : (wide : ℕ) (desk : Desk) (room gate out : ℕ) → HasDeskRoom wide desk room → HasDeskRoom wide (noting desk gate out) room
+room_noting wide desk room gate out h = record { probes = h.probes; pages = h.pages; spare = h.spare; spare_words = h.spare_words; page_words = h.page_words }
+
+-- a fact of either desk
+either : (P : Desk → Type 0) (b : Bool) (x y : Desk) → P x → P y → P (cond b x y)
+either P true x y p q = p
+either P false x y p q = q
+
+settled_duties : (desk : Desk) (p s gate out : ℕ) (b : Bool)
+    → duties_of (cond b (phased (noting desk gate out) s (Quiet 0)) (noting desk gate out)) p
+    ≡ cond b (in_phase (record (duties_of desk p) { noted = gate; noted_with = out }) s (Quiet 0)) (record (duties_of desk p) { noted = gate; noted_with = out })
+settled_duties desk p s gate out true = refl
+settled_duties desk p s gate out false = refl
+
+module _ (m m' : CoreData) (h : Holds m) (some_room : 1 ≤ m.room) (s : ℕ) (near : s < 4) (shut : (slot_in m.desk s).phase ≡ Sealed) (reply : StepAnswer) where
+  abbrev gate : ℕ
+  gate = get_or m.words.items (gate_place s) 0
+
+  abbrev out : ℕ
+  out = counted_out m.seats.items
+
+  abbrev p : ℕ
+  p = length m.seats.items - 1
+
+  abbrev to : Desk
+  to = settled m.desk s gate out
+
+  abbrev v : View
+  v = view_of (notes_of m) 0 (first_of m h).seat.state
+
+  slot_within : s < length m.desk.slots
+  slot_within = let a = four_slots m h in omega arith
+
+  to_duties : with_duties v (duties_of to p) ≡ after_settle v s gate
+  to_duties = ap (with_duties v) (settled_duties m.desk p s gate out (inside_of gate == 0))
+      ∙ ap (λ (o : ℕ). with_duties v (cond (inside_of gate == 0) (in_phase (record (duties_of m.desk p) { noted = gate; noted_with = o }) s (Quiet 0)) (record (duties_of m.desk p) { noted = gate; noted_with = o })))
+      (counted_is m.seats.items (first_of m h).seat (first_of m h).there)
+
+  to_room : HasDeskRoom (width m.shape) to (m.room - 1)
+  to_room = let P : Desk → Type 0 = λ d. HasDeskRoom (width m.shape) d (m.room - 1) in
+      let noted = room_noting (width m.shape) m.desk m.room gate out h.desk in
+      either P (inside_of gate == 0) (phased (noting m.desk gate out) s (Quiet 0)) (noting m.desk gate out)
+      (room_phased (width m.shape) (noting m.desk gate out) m.room s (Quiet 0) noted slot_within some_room (omega arith)) (desk_less (width m.shape) (noting m.desk gate out) m.room noted)
+
+  to_families : HasFamilies m.shape to
+  to_families = either (HasFamilies m.shape) (inside_of gate == 0) (phased (noting m.desk gate out) s (Quiet 0)) (noting m.desk gate out)
+      (families_phased m.shape (noting m.desk gate out) s (Quiet 0) h.families slot_within) h.families
+
+  pub settle_done : m' ≡ record m { desk = settled m.desk s gate out; room = m.room - 1 } → reply ≡ (if inside_of gate == 0 then answer.Quiet else answer.Pending (inside_of gate)) → DoesAct m m' 0 (Settle s) reply
+  settle_done is answers =
+      let others = desk_only m m' to is in
+      let e = sym (desk_is m m' to others) in
+      desk_act m m' (first_of m h).seat (Settle s) (first_of m h).there (settle_keeps s) reply h (refl, near, subst IsSealed (sym shut) tt) (record {
+        words = word_read m m' to (gate_place s) is;
+        others = desk_framed m m' to others;
+        duties = ap (λ (d : Desk). with_duties v (duties_of d p)) (sym e) ∙ to_duties;
+        none = refl;
+        room = subst (λ (d : Desk). HasDeskRoom (width m.shape) d (m.room - 1)) e to_room;
+        families = subst (HasFamilies m.shape) e to_families;
+      }) answers
+
+pub settle_declined : (m m' : CoreData) (h : Holds m) (s : ℕ) (reply : StepAnswer) → ¬ ((slot_in m.desk s).phase ≡ Sealed) → m' ≡ record m { room = m.room - 1 }
+    → reply ≡ answer.NotEnabled (actor_state.Keeper (map (λ (x : Slot). x.phase) m.desk.slots)) → DoesAct m m' 0 (Settle s) reply
+settle_declined m m' h s reply other is answers = does_nothing m m' 0 (first_of m h).seat (Settle s) (first_of m h).there reply h (λ can. other (sealed_is (slot_in m.desk s).phase can.2)) is answers

@@ -29,7 +29,7 @@ pub fn inside(gate: u64) -> u16
 }
 
 /// Whether the slot is sealed.
-#[tactic(auto, using(crate::proofs::RecordGates::seal_masked))]
+#[tactic(auto, using(crate::proofs::Gates::seal_masked))]
 pub fn is_sealed(gate: u64) -> bool
     ensures { IsTrue result ↔ (seal_of gate ≡ 1) }
 {

@@ -1,5 +1,5 @@
 use Rattle.std.proofs.Common.{◌≡◌, sym, ◌∙◌, arith}
-use Rattle.gate_core.proofs.DeskSlots.{open_found, open_later, open_none}
+use Rattle.gate_core.proofs.OpenSlot.{open_found, open_later, open_none}
 use Rattle.gate_core.proofs.acts.parts.open_slot.Goals as goal
 
 pub returns-then-is_open : goal.returns-then-is_open

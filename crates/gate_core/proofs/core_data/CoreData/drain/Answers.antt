@@ -1,6 +1,6 @@
 use Rattle.std.proofs.Common.{ap, sym, ◌∙◌}
 use Rattle.gate_core.specs.Views.{Slot}
-use Rattle.gate_core.proofs.DeskDrains.{next_fits, word_within, page_within, page_has_room, drain_done, drain_declined}
+use Rattle.gate_core.proofs.Drains.{next_fits, word_within, page_within, page_has_room, drain_done, drain_declined}
 use Rattle.gate_core.proofs.core_data.CoreData.drain.Goals as goal
 
 pub drain_slot-requires-clause-words : goal.drain_slot-requires-clause-words

@@ -4,7 +4,7 @@ use Rattle.gate_core.specs.declared.core_data.Desk.{Desk}
 use Rattle.gate_core.specs.Acts.{bit_place}
 use Rattle.gate_core.specs.Desks.{slot_in}
 use Rattle.gate_core.specs.Views.{Slot}
-use Rattle.gate_core.proofs.DeskLists.{adds_word-same}
+use Rattle.gate_core.proofs.CollectedLists.{adds_word-same}
 use Rattle.gate_core.proofs.core_data.CoreData.drain_slot.Goals as goal
 
 pub returns-clause-added : goal.returns-clause-added

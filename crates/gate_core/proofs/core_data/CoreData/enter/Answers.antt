@@ -6,10 +6,10 @@ use Rattle.gate_core.specs.Kept.{DoesAct}
 use Rattle.gate_core.specs.declared.steps.Act.TheVariants.{Enter}
 use Rattle.gate_core.specs.Acts.{gate_place, page_of}
 use Rattle.hash_family.specs.Positions.{family_of}
-use Rattle.gate_core.proofs.RecordGates.{unsealed}
-use Rattle.gate_core.proofs.RecordFacts.{record_refused}
+use Rattle.gate_core.proofs.Gates.{unsealed}
+use Rattle.gate_core.proofs.RecordSteps.{record_refused}
 use Rattle.gate_core.proofs.RecordPlane.{few_places, gate_within, family_there, looked_near}
-use Rattle.gate_core.proofs.RecordActs.{has_not_looked, entered_visit, entered_inside}
+use Rattle.gate_core.proofs.Enters.{has_not_looked, entered_visit, entered_inside}
 use Rattle.gate_core.proofs.core_data.CoreData.enter.Goals as goal
 
 pub returns-in_default : goal.returns-in_default

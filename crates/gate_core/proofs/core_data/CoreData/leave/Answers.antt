@@ -1,8 +1,8 @@
 use Rattle.gate_core.specs.declared.states.PassState.TheVariants.{Inside, Visiting}
 use Rattle.gate_core.specs.declared.steps.Act.TheVariants.{Leave}
-use Rattle.gate_core.proofs.RecordFacts.{record_refused}
+use Rattle.gate_core.proofs.RecordSteps.{record_refused}
 use Rattle.gate_core.proofs.RecordPlane.{few_places, gate_within, state_fits}
-use Rattle.gate_core.proofs.RecordActs.{cannot_leave, finished_left, visit_left}
+use Rattle.gate_core.proofs.Leaves.{cannot_leave, finished_left, visit_left}
 use Rattle.gate_core.proofs.core_data.CoreData.leave.Goals as goal
 
 pub finish-requires-clause-few : goal.finish-requires-clause-few

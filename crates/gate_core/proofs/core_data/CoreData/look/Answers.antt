@@ -1,5 +1,5 @@
-use Rattle.gate_core.proofs.RecordFacts.{record_refused}
-use Rattle.gate_core.proofs.RecordActs.{can_look, cannot_look, looked}
+use Rattle.gate_core.proofs.RecordSteps.{record_refused}
+use Rattle.gate_core.proofs.Looks.{can_look, cannot_look, looked}
 use Rattle.gate_core.specs.declared.steps.Act.TheVariants.{Look}
 use Rattle.gate_core.proofs.core_data.CoreData.look.Goals as goal
 

@@ -1,4 +1,4 @@
-use Rattle.gate_core.proofs.DeskOpens.{open_done, open_declined}
+use Rattle.gate_core.proofs.Opens.{open_done, open_declined}
 use Rattle.gate_core.proofs.core_data.CoreData.open.Goals as goal
 
 pub returns-then-can_open : goal.returns-then-can_open

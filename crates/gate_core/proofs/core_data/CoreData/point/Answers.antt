@@ -1,5 +1,5 @@
 use Rattle.std.proofs.Common.{arith}
-use Rattle.gate_core.proofs.DeskSeals.{point_done, point_declined}
+use Rattle.gate_core.proofs.Points.{point_done, point_declined}
 use Rattle.gate_core.proofs.core_data.CoreData.point.Goals as goal
 
 pub returns-then-slot-lt-NO_SLOT : goal.returns-then-slot-lt-NO_SLOT

@@ -1,7 +1,7 @@
 use Rattle.std.proofs.Common.{sym, subst}
 use Rattle.gate_core.specs.Views.{Slot}
 use Rattle.gate_core.specs.Acts.{CanProbe}
-use Rattle.gate_core.proofs.DeskProbes.{probe_done, probe_declined}
+use Rattle.gate_core.proofs.Probes.{probe_done, probe_declined}
 use Rattle.gate_core.proofs.core_data.CoreData.probe.Goals as goal
 
 pub returns-then-can_probe : goal.returns-then-can_probe

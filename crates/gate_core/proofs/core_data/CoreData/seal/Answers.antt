@@ -1,5 +1,5 @@
 use Rattle.std.proofs.Common.{arith}
-use Rattle.gate_core.proofs.DeskSeals.{seal_done, seal_declined}
+use Rattle.gate_core.proofs.Seals.{seal_done, seal_declined}
 use Rattle.gate_core.proofs.core_data.CoreData.seal.Goals as goal
 
 pub returns-then-slot-lt-NO_SLOT : goal.returns-then-slot-lt-NO_SLOT

@@ -1,9 +1,9 @@
 use Rattle.std.proofs.Common.{ℕ, ◌<◌, ◌∙◌, bit_or, get_or, ap, arith}
 use Rattle.gate_core.specs.declared.states.PassState.TheVariants.{Inside}
 use Rattle.gate_core.specs.declared.steps.Act.TheVariants.{Set}
-use Rattle.gate_core.proofs.RecordFacts.{record_refused}
+use Rattle.gate_core.proofs.RecordSteps.{record_refused}
 use Rattle.gate_core.proofs.RecordPlane.{inside_near, next_mark, next_within}
-use Rattle.gate_core.proofs.RecordActs.{cannot_set, mark_set}
+use Rattle.gate_core.proofs.Sets.{cannot_set, mark_set}
 use Rattle.gate_core.proofs.core_data.CoreData.set.Goals as goal
 
 pub returns-in_default : goal.returns-in_default

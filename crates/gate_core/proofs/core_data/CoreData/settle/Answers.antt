@@ -1,6 +1,6 @@
 use Rattle.std.proofs.Common.{ap, sym, ◌∙◌}
 use Rattle.gate_core.specs.Views.{Slot}
-use Rattle.gate_core.proofs.DeskSettles.{few_seats, settle_done, settle_declined}
+use Rattle.gate_core.proofs.Settles.{few_seats, settle_done, settle_declined}
 use Rattle.gate_core.proofs.core_data.CoreData.settle.Goals as goal
 
 pub settle_slot-requires-clause-few_seats : goal.settle_slot-requires-clause-few_seats

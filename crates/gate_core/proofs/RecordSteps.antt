@@ -17,14 +17,14 @@ use Rattle.gate_core.specs.declared.core_data.Log.{Log}
 use Rattle.gate_core.specs.declared.core_data.Seat.{Seat}
 use Rattle.gate_core.specs.Marks.{width}
 use Rattle.gate_core.specs.Views.{Visit, Duties, View, slot_at}
-use Rattle.gate_core.specs.Acts.{word_of, word_after, view_after, Enabled}
+use Rattle.gate_core.specs.Acts.{word_of, word_after, view_after, Enabled, moved_to}
 use Rattle.gate_core.specs.Core.{items_at, answer_of, state_of, finished}
 use Rattle.gate_core.specs.Kept.{notes_of, duties_of, duties_at, role_at, view_of, views_from, views_of, HasLogRoom, HasDeskRoom, HasMarks, Holds, DoesAct}
 use Rattle.gate_core.specs.Writes.{no_seat, seat_at, Grows, Writes}
 use Rattle.gate_core.proofs.Gates.{tested}
 use Rattle.gate_core.proofs.Lists.{at_set}
 use Rattle.gate_core.proofs.KeptViews.{views-turn}
-use Rattle.gate_core.proofs.KeptActs.{HoldsBeside, desk_less, with_less_room, does_act, does_nothing}
+use Rattle.gate_core.proofs.MachineSteps.{HoldsBeside, desk_less, with_less_room, does_act, does_nothing, KeepsPlane}
 
 pub there_at : {A : Type 0} → (l : List A) (i : ℕ) (d : A) → i < length l → get_elem? l i ≡ some (get_or l i d)
 there_at [] i d within = absurd (omega arith)
@@ -124,6 +124,11 @@ stays log log' place e = record {
 abbrev pub grown : View → PassState → List Entry → List Visit → View
 grown v st es vs = record v { state = st; entries = v.entries ++ es; visits = v.visits ++ vs }
 
+-- without more entries or visits
+pub bare : (v : View) (st : PassState) → grown v st [] [] ≡ moved_to v st
+bare v st = ap (λ (es : List Entry). let w : View = record v { state = st; entries = es; visits = v.visits ++ [] } in w) (append-nil v.entries)
+    ∙ ap (λ (vs : List Visit). let w : View = record v { state = st; visits = vs } in w) (append-nil v.visits)
+
 abbrev view_by : (place : ℕ) → PassState → List Entry → List Visit → Duties → View
 view_by place st es vs d = record { role = role_at place; number = place - 1; state = st; entries = es; visits = vs; floor = 0; duties = duties_at place d }
 
@@ -186,12 +191,12 @@ module _ (m m' : CoreData) (at word place : ℕ) (st : PassState) (seat : Seat) 
   there : get_elem? m.seats.items place ≡ some (record { state = st; marks = (seat_at m place).marks })
   there = subst (λ (z : PassState). get_elem? m.seats.items place ≡ some (record { state = z; marks = (seat_at m place).marks })) is (there_at m.seats.items place no_seat within)
 
-  pub record_does : (a : Act) (reply : StepAnswer) → 1 ≤ m.room → Enabled m.shape a v → es ≡ finished a v → at ≡ word_of m.shape a v
+  pub record_does : (a : Act) → KeepsPlane a → (reply : StepAnswer) → 1 ≤ m.room → Enabled m.shape a v → es ≡ finished a v → at ≡ word_of m.shape a v
       → word ≡ word_after m.shape a v (get_or m.words.items at 0) → grown v seat.state es vs ≡ view_after m.shape a v (get_or m.words.items at 0)
       → HasMarks m.shape seat.state seat.marks → length es ≤ 1 → length vs ≤ 1 → reply ≡ answer_of m.shape a v (get_or m.words.items at 0) → DoesAct m m' place a reply
-  record_does a reply spare can es_is at_is word_is view_is here few_es few_vs reply_is =
+  record_does a keeps reply spare can es_is at_is word_is view_is here few_es few_vs reply_is =
       let read = ap (λ (i : ℕ). get_or m.words.items i 0) at_is in
-      does_act m m' place (record { state = st; marks = (seat_at m place).marks }) a there reply holds can record {
+      does_act m m' place (record { state = st; marks = (seat_at m place).marks }) a there keeps reply holds can record {
         shape = writes.shape;
         words = writes.words ∙ (ap (λ (i : ℕ). set m.words.items i word) at_is
             ∙ ap (λ (x : ℕ). set m.words.items (word_of m.shape a v) x) (word_is ∙ ap (λ (n : ℕ). word_after m.shape a v n) read));

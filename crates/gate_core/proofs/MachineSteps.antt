@@ -19,8 +19,12 @@ use Rattle.gate_core.specs.Acts.{word_of, word_after, view_after, Enabled}
 use Rattle.gate_core.specs.Core.{Core, view_at, answer_of, state_of, finished}
 use Rattle.gate_core.specs.Invariant.{PlaneInvariant}
 use Rattle.gate_core.specs.Kept.{notes_of, duties_of, view_of, views_of, role_at, core_of, HasLogRoom, HasDeskRoom, HasMarks, Holds, DoesAct}
-use Rattle.gate_core.proofs.Every.{keeps}
 use Rattle.gate_core.proofs.KeptViews.{length-views_from, view_there}
+
+-- an act keeps the plane invariant, whoever does it
+abbrev pub KeepsPlane : Act → Type 0
+KeepsPlane a = (shape : PageShape) (words : List ℕ) (views : List View) → PlaneInvariant shape words views → (id : ℕ) (v : View) → get_elem? views id ≡ some v → ¬ (v.role ≡ Spent) → Enabled shape a v
+    → PlaneInvariant shape (set words (word_of shape a v) (word_after shape a v (get_or words (word_of shape a v) 0))) (set views id (view_after shape a v (get_or words (word_of shape a v) 0)))
 
 read_there : {A : Type 0} → (l : List A) (i : ℕ) (d a : A) → get_elem? l i ≡ some a → get_or l i d ≡ a
 read_there [] i d a at = absurd (some-ne-none a (sym at))
@@ -80,7 +84,7 @@ same_core c c' shape words views entries finishers room =
     ∙ (ap (λ (z : List ℕ). let k : Core = record { shape = c.shape; words = c.words; views = c.views; entries = c.entries; finishers = z; room = c'.room } in k) finishers
     ∙ ap (λ (z : ℕ). let k : Core = record c { room = z } in k) room))))
 
-module _ (m m' : CoreData) (place : ℕ) (x : Seat) (a : Act) (there : get_elem? m.seats.items place ≡ some x) where
+module _ (m m' : CoreData) (place : ℕ) (x : Seat) (a : Act) (there : get_elem? m.seats.items place ≡ some x) (keeps : KeepsPlane a) where
   abbrev v : View
   v = view_of (notes_of m) place x.state
 
@@ -92,7 +96,7 @@ module _ (m m' : CoreData) (place : ℕ) (x : Seat) (a : Act) (there : get_elem?
       subst (λ (s : PageShape). PlaneInvariant s m'.words.items (views_of m')) (sym to.shape)
       (subst (λ (ws : List ℕ). PlaneInvariant m.shape ws (views_of m')) (sym to.words)
       (subst (λ (vs : List View). PlaneInvariant m.shape (set m.words.items (word_of m.shape a v) (word_after m.shape a v n)) vs) (sym to.views)
-      (keeps m.shape m.words.items (views_of m) holds.plane place v (viewed m place x there) (alive place) a can)))
+      (keeps m.shape m.words.items (views_of m) holds.plane place v (viewed m place x there) (alive place) can)))
 
   some_kept : Holds m → Changes m m' place a v n → 1 ≤ length m'.seats.items
   some_kept holds to =

@@ -21,7 +21,7 @@ use Rattle.gate_core.specs.Invariant.{PlaneFits}
 use Rattle.gate_core.specs.Kept.{Notes, notes_of, duties_of, view_of, views_from, views_of, HasDeskRoom, Holds, DoesAct}
 use Rattle.gate_core.proofs.Duty.{keeper_fits}
 use Rattle.gate_core.proofs.KeptViews.{views-turn}
-use Rattle.gate_core.proofs.KeptActs.{viewed, HoldsBeside, Changes, log_less, does_act}
+use Rattle.gate_core.proofs.MachineSteps.{viewed, HoldsBeside, Changes, log_less, does_act, KeepsPlane}
 
 -- ---- the keeper's view
 
@@ -100,8 +100,8 @@ module _ (m m' : CoreData) (x : Seat) (a : Act) (there : get_elem? m.seats.items
     families = t.families;
   }
 
-  pub desk_act : (reply : StepAnswer) → Holds m → Enabled m.shape a v → TurnsDesk m m' a x.state n → reply ≡ answer_of m.shape a v n → DoesAct m m' 0 a reply
-  desk_act reply h can t e = does_act m m' 0 x a there reply h can (desk_changes t) (desk_holds h t) e
+  pub desk_act : KeepsPlane a → (reply : StepAnswer) → Holds m → Enabled m.shape a v → TurnsDesk m m' a x.state n → reply ≡ answer_of m.shape a v n → DoesAct m m' 0 a reply
+  desk_act keeps reply h can t e = does_act m m' 0 x a there keeps reply h can (desk_changes t) (desk_holds h t) e
 
 -- ---- the frame
 

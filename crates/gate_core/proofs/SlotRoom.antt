@@ -1,4 +1,4 @@
--- The room of the desk and the families of its pages, where slots change.
+-- What a slot that changes leaves of the room for steps, and of the hash functions of the pages in slots.
 use Rattle.std.proofs.Common.{◌≡◌, ℕ, zero, suc, ◌+◌, ◌-◌, ◌<◌, ◌≤◌, List, [], ◌∷◌, length, get_or, set, sym, ap, ◌∙◌, arith}
 use Rattle.std.specs.Prelude.{slice_get, Some}
 use Rattle.spie_base.specs.declared.PageShape.{PageShape}
