@@ -1,6 +1,6 @@
 -- A script is read.
-use Rattle.std.proofs.Common.{ℕ, ◌≡◌, ◌≤◌, List, [], ◌∷◌, length, refl, ap, arith, sym, ◌∙◌, Ok, true, false, nat_lt}
-use Rattle.std.proofs.lemmas.Bool.Decides.{nat_tests}
+use Rattle.std.proofs.Common.{ℕ, ◌≡◌, List, [], ◌∷◌, length, refl, ap, sym, ◌∙◌, Ok, true, false, nat_lt}
+use Rattle.spie_base.proofs.Bounds.{within}
 use Rattle.trace_format.specs.Limits.{most_bytes}
 use Rattle.trace_format.specs.Text.{lines}
 use Rattle.play_script.proofs.SoundLines.{narrow}
@@ -32,13 +32,10 @@ ended : (said : List Said) → is_over (stage_of said) ≡ true → read_lines (
 unfolding read_lines
 ended said o = rw o refl
 
-below_most : (n : ℕ) → n ≤ most_bytes → nat_lt most_bytes n ≡ false
-below_most n h = grind (arith, nat_tests)
-
 -- a script's text reads as it
 pub script_is_read : (text : List ℕ) (script : PlayScript) → IsScript text script → read_of text ≡ Ok script
 unfolding read_of known_in
 script_is_read text script t =
-    let z : nat_lt most_bytes (length text) ≡ false = below_most (length text) t.fits in
+    let z : nat_lt most_bytes (length text) ≡ false = within most_bytes (length text) t.fits in
     let k : read_lines (known_of []) (lines text) ≡ Ok (known_of t.said) = complete (lines text) t.said [] [] t.lines_say ∙ ended t.said t.ended in
     rw (z, k) (ap (λ v. Ok v) (sym t.script_is))

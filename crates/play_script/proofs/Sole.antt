@@ -1,6 +1,6 @@
 -- A text with a fault is refused with it.
-use Rattle.std.proofs.Common.{ℕ, ◌≡◌, ◌≤◌, ◌<◌, inl, inr, List, [], ◌∷◌, length, refl, ap, arith, sym, ◌∙◌, Result, Ok, Err, Bool, true, false, cond, ◌==◌, nat_lt}
-use Rattle.std.proofs.lemmas.Bool.Decides.{nat_tests}
+use Rattle.std.proofs.Common.{ℕ, ◌≡◌, ◌≤◌, ◌<◌, inl, inr, List, [], ◌∷◌, length, refl, ap, sym, ◌∙◌, Result, Ok, Err, Bool, true, false, cond, ◌==◌}
+use Rattle.spie_base.proofs.Bounds.{past, within, some_items}
 use Rattle.trace_format.specs.Fault.{LastBreaks}
 use Rattle.trace_format.specs.Limits.{most_bytes, most_line_bytes}
 use Rattle.trace_format.specs.Text.{lines, fields}
@@ -59,33 +59,24 @@ fields_read here read far parts why.Field narrow o h = misformed_reads here far 
 fields_read here read far parts why.TooMany narrow o h = too_many_reads here read far parts narrow h
 fields_read here read far parts _ narrow o h = absurd h
 
-short_is : (n : ℕ) → n ≤ most_line_bytes → nat_lt most_line_bytes n ≡ false
-short_is n h = grind (arith, nat_tests)
-
-long_is : (n : ℕ) → most_line_bytes < n → nat_lt most_line_bytes n ≡ true
-long_is n h = grind (arith, nat_tests)
-
 too_wide : (known : Known) (text : List ℕ) → most_line_bytes < length text → read_line known text ≡ Err why.Length
 unfolding read_line
-too_wide known text h = rw (long_is (length text) h) refl
+too_wide known text h = rw (past most_line_bytes (length text) h) refl
 
 short_reads : (before : List Said) (text : List ℕ) (y : WhyRefused) → IsNarrow (script_of before) → is_over (stage_of before) ≡ false → (length text ≤ most_line_bytes) × FieldsBreak (stage_of before) (script_of before) (fields text) y → read_line (known_of before) text ≡ Err y
 unfolding read_line
-short_reads before text y narrow o h = rw (short_is (length text) h.0) (fields_read (stage_of before) (how_many before) (script_of before) (fields text) y narrow o h.1)
+short_reads before text y narrow o h = rw (within most_line_bytes (length text) h.0) (fields_read (stage_of before) (how_many before) (script_of before) (fields text) y narrow o h.1)
 
 line_sole : (before : List Said) (text : List ℕ) (y : WhyRefused) → IsNarrow (script_of before) → is_over (stage_of before) ≡ false → IsBad before text y → read_line (known_of before) text ≡ Err y
 line_sole before text why.Length narrow o h = too_wide (known_of before) text h
 line_sole before text y narrow o h = short_reads before text y narrow o h
-
-some_left : (x : ℕ) (xs : List ℕ) → (length (x ∷ xs) == 0) ≡ false
-some_left x xs = grind (arith, nat_tests)
 
 abbrev ErrAt : List Said → WhyRefused → Result Known TraceRefused
 ErrAt before y = Err (refused (known_of before) y)
 
 last_sole : (before : List Said) (last : List ℕ) (y : WhyRefused) (over : Bool) → LastBreaks over last y → cond over (cond (length last == 0) (Ok (known_of before)) (Err (refused (known_of before) why.After))) (Err (refused (known_of before) why.Ending)) ≡ Err (refused (known_of before) y)
 last_sole before [] y true h = absurd (h.0 refl)
-last_sole before (x ∷ xs) y true h = rw (some_left x xs) (ap (λ v. ErrAt before v) (sym h.1))
+last_sole before (x ∷ xs) y true h = rw (some_items x xs) (ap (λ v. ErrAt before v) (sym h.1))
 last_sole before last y false h = ap (λ v. ErrAt before v) (sym h)
 
 mid_sole : (before : List Said) (text next : List ℕ) (more : List (List ℕ)) (y : WhyRefused) (over : Bool) → is_over (stage_of before) ≡ over → IsNarrow (script_of before) → LineBreaks over before text y → cond over (Err (refused (known_of before) why.After)) (then_read (known_of before) (read_line (known_of before) text) (λ new. read_lines new (next ∷ more))) ≡ Err (refused (known_of before) y)
@@ -98,16 +89,10 @@ rest_sole parts before [] y b h = absurd h
 rest_sole parts before (last ∷ []) y b h = complete parts before last [] b ∙ last_sole before last y (is_over (stage_of before)) h
 rest_sole parts before (text ∷ next ∷ more) y b h = complete parts before text (next ∷ more) b ∙ mid_sole before text next more y (is_over (stage_of before)) refl (narrow parts before (text ∷ next ∷ more) b) h
 
-in_bounds : (n : ℕ) → n ≤ most_bytes → nat_lt most_bytes n ≡ false
-in_bounds n h = grind (arith, nat_tests)
-
-out_of_bounds : (n : ℕ) → most_bytes < n → nat_lt most_bytes n ≡ true
-out_of_bounds n h = grind (arith, nat_tests)
-
 -- a fault is the one that is read
 pub fault_is_read : (text : List ℕ) (f : TraceRefused) → IsFault text f → read_of text ≡ Err f
 unfolding read_of known_in
-fault_is_read text f (inl p) = rw (out_of_bounds (length text) p.0) (ap (λ v. Err v) (sym p.1))
+fault_is_read text f (inl p) = rw (past most_bytes (length text) p.0) (ap (λ v. Err v) (sym p.1))
 fault_is_read text f (inr h) =
     let r : read_lines (known_of []) (lines text) ≡ Err (refused (known_of h.before) f.why) = rest_sole (lines text) h.before h.rest f.why h.lines_say h.breaks in
-    rw (in_bounds (length text) h.fits, r) (ap (λ l. Err (record { line = l; why = f.why })) (sym h.line_is))
+    rw (within most_bytes (length text) h.fits, r) (ap (λ l. Err (record { line = l; why = f.why })) (sym h.line_is))

@@ -1,6 +1,6 @@
 -- What the reading of a line gives.
-use Rattle.std.proofs.Common.{ℕ, ◌≡◌, ◌≤◌, ◌<◌, List, ◌∷◌, length, refl, ap, sym, ◌∙◌, arith, Result, Ok, Err, Bool, true, false, cond, nat_lt}
-use Rattle.std.proofs.lemmas.Bool.Decides.{nat_tests}
+use Rattle.std.proofs.Common.{ℕ, ◌≡◌, ◌≤◌, List, ◌∷◌, length, refl, ap, sym, ◌∙◌, Result, Ok, Err, Bool, true, false, cond, nat_lt}
+use Rattle.spie_base.proofs.Bounds.{is_past, within, is_within}
 use Rattle.trace_format.specs.Limits.{most_line_bytes}
 use Rattle.trace_format.specs.Text.{fields}
 use Rattle.trace_format.specs.declared.refused.WhyRefused.{WhyRefused}
@@ -54,15 +54,9 @@ short_meets : (before : List Said) (line : List ℕ) (r : Result Known WhyRefuse
 short_meets before line (Ok new) narrow short e m = (m.said, record { short = short; comes = m.comes; spelled = m.spelled; fits = m.fits }, m.grows ∙ grown_known before m.said)
 short_meets before line (Err y) narrow short e m = as_bad before line y short (broken (stage_of before) (how_many before) (script_of before) (fields line) y narrow e m)
 
-long_by : (n : ℕ) → nat_lt most_line_bytes n ≡ true → most_line_bytes < n
-long_by n e = grind (arith, nat_tests)
-
-short_by : (n : ℕ) → nat_lt most_line_bytes n ≡ false → n ≤ most_line_bytes
-short_by n e = grind (arith, nat_tests)
-
 line_meets_by : (before : List Said) (line : List ℕ) (b : Bool) → IsNarrow (script_of before) → is_over (stage_of before) ≡ false → nat_lt most_line_bytes (length line) ≡ b → LineMeets before line (cond b (Err why.Length) (line_at (stage_of before) (known_of before) (fields line)))
-line_meets_by before line true narrow o e = long_by (length line) e
-line_meets_by before line false narrow o e = short_meets before line _ narrow (short_by (length line) e) refl (fields_meet (stage_of before) (how_many before) (script_of before) (fields line) o)
+line_meets_by before line true narrow o e = is_past most_line_bytes (length line) e
+line_meets_by before line false narrow o e = short_meets before line _ narrow (is_within most_line_bytes (length line) e) refl (fields_meet (stage_of before) (how_many before) (script_of before) (fields line) o)
 
 pub line_meets : (before : List Said) (line : List ℕ) → IsNarrow (script_of before) → is_over (stage_of before) ≡ false → LineMeets before line (read_line (known_of before) line)
 unfolding read_line
@@ -72,6 +66,6 @@ line_meets before line narrow o = line_meets_by before line _ narrow o refl
 pub line_again : (before : List Said) (line : List ℕ) (s : Said) → IsNarrow (script_of before) → IsLine before line s → read_line (known_of before) line ≡ Ok (known_of (s ∷ before))
 unfolding read_line
 line_again before line s narrow l =
-    let t : nat_lt most_line_bytes (length line) ≡ false = let h = l.short in grind (arith, nat_tests) in
+    let t : nat_lt most_line_bytes (length line) ≡ false = within most_line_bytes (length line) l.short in
     let r : line_at (stage_of before) (known_of before) (fields line) ≡ taken (known_of before) (script_of before) s = spelled_reads (stage_of before) (how_many before) (script_of before) s (fields line) narrow l.comes l.spelled in
     rw (t, r, l.fits) (ap (λ v. Ok v) (grown_known before s))

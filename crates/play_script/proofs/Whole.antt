@@ -1,6 +1,6 @@
 -- What is read is a script, and what is refused has this fault first.
-use Rattle.std.proofs.Common.{ℕ, ◌≡◌, ◌+◌, ◌≤◌, ◌<◌, inl, inr, List, [], ◌∷◌, length, refl, ap, arith, sym, subst, Result, Ok, Err, Bool, true, false, cond, ◌==◌, nat_lt}
-use Rattle.std.proofs.lemmas.Bool.Decides.{nat_tests}
+use Rattle.std.proofs.Common.{ℕ, ◌≡◌, ◌+◌, ◌≤◌, inl, inr, List, [], ◌∷◌, length, refl, ap, sym, subst, Result, Ok, Err, Bool, true, false, cond, ◌==◌, nat_lt}
+use Rattle.spie_base.proofs.Bounds.{is_past, is_within, some_items}
 use Rattle.trace_format.proofs.Lines.{some_part}
 use Rattle.trace_format.specs.Fault.{too_long}
 use Rattle.trace_format.specs.Limits.{most_bytes}
@@ -40,14 +40,11 @@ PartsMeet parts (Err f) = Broke parts f
 broke : (parts : List (List ℕ)) (before : List Said) (rest : List (List ℕ)) (y : WhyRefused) → Begins parts before rest → RestBreaks before rest y → PartsMeet parts (Err (refused (known_of before) y))
 broke parts before rest y b r = record { before = before; rest = rest; lines_say = b; line_is = refl; breaks = r }
 
-some_left : (x : ℕ) (xs : List ℕ) → (length (x ∷ xs) == 0) ≡ false
-some_left x xs = grind (arith, nat_tests)
-
 at_end : (parts : List (List ℕ)) (before : List Said) (last : List ℕ) → is_over (stage_of before) ≡ true → Begins parts before (last ∷ []) → PartsMeet parts (cond (length last == 0) (Ok (known_of before)) (Err (refused (known_of before) why.After)))
 at_end parts before [] o b = record { said = before; lines_say = b; ended = o; known_is = refl }
 at_end parts before (x ∷ xs) o b =
     let r : RestBreaks before ((x ∷ xs) ∷ []) why.After = rw o (λ q. cc, refl) in
-    rw (some_left x xs) (broke parts before ((x ∷ xs) ∷ []) why.After b r)
+    rw (some_items x xs) (broke parts before ((x ∷ xs) ∷ []) why.After b r)
 
 at_last : (parts : List (List ℕ)) (before : List Said) (last : List ℕ) (over : Bool) → is_over (stage_of before) ≡ over → Begins parts before (last ∷ []) → PartsMeet parts (cond over (cond (length last == 0) (Ok (known_of before)) (Err (refused (known_of before) why.After))) (Err (refused (known_of before) why.Ending)))
 at_last parts before last true o b = at_end parts before last o b
@@ -85,19 +82,13 @@ abbrev pub TextMeets : List ℕ → Result PlayScript TraceRefused → Type 0
 TextMeets text (Ok script) = IsScript text script
 TextMeets text (Err f) = IsFault text f
 
-over_most : (n : ℕ) → nat_lt most_bytes n ≡ true → most_bytes < n
-over_most n e = grind (arith, nat_tests)
-
-under_most : (n : ℕ) → nat_lt most_bytes n ≡ false → n ≤ most_bytes
-under_most n e = grind (arith, nat_tests)
-
 by_parts : (text : List ℕ) (r : Result Known TraceRefused) → length text ≤ most_bytes → PartsMeet (lines text) r → TextMeets text (script_by r)
 by_parts text (Ok known) fits m = record { fits = fits; said = m.said; lines_say = m.lines_say; ended = m.ended; script_is = ap script_in m.known_is }
 by_parts text (Err f) fits m = inr (record { fits = fits; before = m.before; rest = m.rest; lines_say = m.lines_say; line_is = m.line_is; breaks = m.breaks })
 
 by_size : (text : List ℕ) (b : Bool) → nat_lt most_bytes (length text) ≡ b → TextMeets text (script_by (cond b (Err too_long) (read_lines (known_of []) (lines text))))
-by_size text true e = inl (over_most _ e, refl)
-by_size text false e = let p = some_part text in by_parts text _ (under_most _ e) (parts_meet (lines text) [] p.first p.more p.are)
+by_size text true e = inl (is_past most_bytes (length text) e, refl)
+by_size text false e = let p = some_part text in by_parts text _ (is_within most_bytes (length text) e) (parts_meet (lines text) [] p.first p.more p.are)
 
 pub text_meets : (text : List ℕ) → TextMeets text (read_of text)
 unfolding read_of known_in
