@@ -3,3 +3,4 @@ pub mod Tried
 pub mod Lasts
 pub mod Held
 pub mod Slots
+pub mod Placed

@@ -1,5 +1,5 @@
 // Passes are dealt and gathered, all at once.
-ghost use Rattle.std.specs.Prelude.{◌≡◌, ℕ, ◌<◌, ◌≤◌, ◌++◌, All, IfOk, OnOk, OnErr, replicate, length, vec_len, flat_map};
+ghost use Rattle.std.specs.Prelude.{◌≡◌, ◌<◌, ◌≤◌, ◌++◌, All, IfOk, OnOk, OnErr, replicate, vec_len, flat_map};
 ghost use Rattle.gate_core.specs.Invariant.{IsWhole};
 ghost use Rattle.gate_core.specs.declared.limits.TheConstants.{MOST_PASSES};
 ghost use Rattle.page_gate.specs.Steps.{IsMet};

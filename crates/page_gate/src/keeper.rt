@@ -2,6 +2,7 @@
 ghost use Rattle.std.specs.Prelude.{◌≡◌, ◌<◌, ◌≤◌, ◌↔◌, ℕ, IsTrue, IsNone, IfSome};
 ghost use Rattle.page_gate.specs.Slots.{HasOpen, IsWaiting, open_page, free_count};
 
+use crate::hashes::PageHashes;
 use crate::slots::{free, oldest};
 use atomic_table::Seat;
 use gate_core::view::{Slot, View};
@@ -15,6 +16,8 @@ pub struct Keeper {
     pub(crate) seat: Seat<(), View>,
     pub(crate) slots: [Slot; 4],
     pub(crate) out: u32,
+    // Of the page in which it recorded last.
+    pub(crate) hashes: Option<PageHashes>,
 }
 
 impl Model for Keeper {

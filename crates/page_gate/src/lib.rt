@@ -11,7 +11,7 @@
 //! A thread records through a `Pass` of its own. `try_record` loads the current slot (look), adds one to its gate (enter), and finds
 //! in what it read whether the gate was sealed and which page it is in. Unsealed, it sets the k bits by fetch-or (set) and
 //! takes one from the gate (leave). Sealed, it leaves at once. It waits for nobody, takes no lock and no memory, and works out
-//! its k positions once.
+//! its k positions once. A page's hash functions are worked out in a pass's first record there; the pass keeps them for the next.
 //!
 //! # The gate as an epoch
 //!
@@ -33,6 +33,7 @@
 #![tactic(auto)]
 
 mod deal;
+mod hashes;
 mod keeper;
 mod open;
 mod pass;

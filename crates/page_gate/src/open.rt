@@ -1,8 +1,7 @@
 // A new plane.
-ghost use Rattle.std.specs.Prelude.{◌≡◌, IfOk, [], vec_items};
+ghost use Rattle.std.specs.Prelude.{◌≡◌, IfOk, []};
 ghost use Rattle.gate_core.specs.Views.{first_keeper};
 ghost use Rattle.spie_base.specs.Shapes.{IsShape};
-ghost use Rattle.gate_core.specs.Invariant.{IsFresh};
 
 use crate::keeper::Keeper;
 use crate::plane::Plane;
@@ -31,6 +30,7 @@ fn first_keeper(seat: Seat<(), View>) -> Keeper
         seat,
         slots: [open, free, free, free],
         out: 0,
+        hashes: None,
     }
 }
 

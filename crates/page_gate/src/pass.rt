@@ -3,6 +3,7 @@ ghost use Rattle.std.specs.Prelude.{◌≡◌};
 ghost use Rattle.page_gate.specs.Lasts.{last_of};
 ghost use Rattle.gate_core.specs.Invariant.{IsRising};
 
+use crate::hashes::PageHashes;
 use atomic_table::Seat;
 use gate_core::view::View;
 use spie_base::Entry;
@@ -13,6 +14,8 @@ use std::marker::Model;
 pub struct Pass {
     pub(crate) seat: Seat<(), View>,
     pub(crate) last: Option<Entry>,
+    // Of the page in which it recorded last.
+    pub(crate) hashes: Option<PageHashes>,
 }
 
 impl Model for Pass {

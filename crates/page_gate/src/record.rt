@@ -1,7 +1,6 @@
 // A record: look, enter, set each mark, leave.
-ghost use Rattle.std.specs.Prelude.{◌≡◌, ℕ, ◌<◌, ◌≤◌, ◌++◌, [], ◌∷◌, slice_index};
+ghost use Rattle.std.specs.Prelude.{◌≡◌, ◌<◌};
 ghost use Rattle.hash_family.specs.Positions.{position};
-ghost use Rattle.spie_base.specs.Shapes.{IsShape};
 ghost use Rattle.gate_core.specs.declared.limits.TheConstants.{SLOTS};
 ghost use Rattle.gate_core.specs.declared.steps.Act.TheVariants.{Look, Enter, Set, Leave};
 ghost use Rattle.gate_core.specs.declared.states.PassState.TheVariants.{Idle, Inside};
@@ -12,12 +11,12 @@ ghost use Rattle.gate_core.specs.Acts.{slot_of, moved_to};
 ghost use Rattle.page_gate.specs.Steps.{Ready, Acted, Found, IsMet};
 ghost use Rattle.page_gate.specs.Tried.{Tells, RecordedIn, StaysWith};
 
+use crate::hashes::{PageHashes, marks_in};
 use crate::words::Words;
 use atomic_table::Seat;
-use gate_core::family_of;
 use gate_core::gate_word::{bit_of, bits_at, is_sealed, page};
 use gate_core::view::View;
-use spie_base::{Marks, PageNo, PageShape, Sig};
+use spie_base::{PageNo, Sig};
 use std::marker::Brand;
 
 /// What a try to record answers.
@@ -27,15 +26,6 @@ pub enum Tried {
     Entered(PageNo),
     /// The gate was sealed; this is the word that was read.
     Sealed { gate: u64 },
-}
-
-// The marks of a signature in a page.
-fn marks_in(shape: &PageShape, page: PageNo, sig: &Sig) -> Marks
-    requires { IsShape shape.now }
-    ensures value { (i : ℕ) → i < shape.now.k → slice_index result.at i ≡ position shape.now page.number sig.now i }
-    ensures count { result.count ≡ shape.now.k }
-{
-    family_of(shape, page).positions(sig)
 }
 
 impl Words {
@@ -75,30 +65,49 @@ impl Words {
         self.set_as::<Brand>(seat, bits_at(&self.shape, slot, mark / 64), bit_of(mark));
     }
 
-    fn set_all(&self, seat: &mut Seat<(), View>, slot: u8, page: PageNo, sig: &Sig)
+    fn set_all(
+        &self,
+        seat: &mut Seat<(), View>,
+        kept: &mut Option<PageHashes>,
+        slot: u8,
+        page: PageNo,
+        sig: &Sig,
+    )
         requires table { seat.old.table_id ≡ self.now.table.shared.table_id }
         requires inside { (seat.old.me.0.state ≡ Inside slot page sig.now 0) × (slot < SLOTS) × ¬ (seat.old.me.0.role ≡ Spent) }
         ensures { StaysWith seat.old seat.new (moved_to seat.old.me.0 (Inside slot page sig.now self.now.shape.k)) }
     {
-        let marks = marks_in(&self.shape, page, sig);
+        let marks = marks_in(kept, &self.shape, page, sig);
         for i in 0..self.shape.k {
             self.set(seat, slot, page, sig, i, marks.at[usize::from(i)]);
         }
     }
 
     // Sets all marks of a record that is inside, and leaves.
-    fn finish(&self, seat: &mut Seat<(), View>, slot: u8, page: PageNo, sig: &Sig)
+    fn finish(
+        &self,
+        seat: &mut Seat<(), View>,
+        kept: &mut Option<PageHashes>,
+        slot: u8,
+        page: PageNo,
+        sig: &Sig,
+    )
         requires table { seat.old.table_id ≡ self.now.table.shared.table_id }
         requires inside { (seat.old.me.0.state ≡ Inside slot page sig.now 0) × (slot < SLOTS) × ¬ (seat.old.me.0.role ≡ Spent) }
         ensures recorded { RecordedIn page sig.now seat.old seat.new }
         ensures met { IsMet self.now.shape seat.new.me.0 }
     {
-        self.set_all(seat, slot, page, sig);
+        self.set_all(seat, kept, slot, page, sig);
         self.leave(seat, slot);
     }
 
     // The seat is idle before and after.
-    pub(crate) fn record_by(&self, seat: &mut Seat<(), View>, sig: &Sig) -> Tried
+    pub(crate) fn record_by(
+        &self,
+        seat: &mut Seat<(), View>,
+        kept: &mut Option<PageHashes>,
+        sig: &Sig,
+    ) -> Tried
         requires table { seat.old.table_id ≡ self.now.table.shared.table_id }
         requires idle { (seat.old.me.0.state ≡ Idle) × ¬ (seat.old.me.0.role ≡ Spent) }
         ensures tells { Tells self.now.shape sig.now seat.old seat.new result }
@@ -111,13 +120,18 @@ impl Words {
             Tried::Sealed { gate }
         } else {
             let page = page(gate);
-            self.finish(seat, slot, page, sig);
+            self.finish(seat, kept, slot, page, sig);
             Tried::Entered(page)
         }
     }
 
     // The same of the keeper, where the slot at which it pointed is open: then the gate is not sealed.
-    pub(crate) fn record_in_open(&self, seat: &mut Seat<(), View>, sig: &Sig) -> PageNo
+    pub(crate) fn record_in_open(
+        &self,
+        seat: &mut Seat<(), View>,
+        kept: &mut Option<PageHashes>,
+        sig: &Sig,
+    ) -> PageNo
         requires table { seat.old.table_id ≡ self.now.table.shared.table_id }
         requires keeper { (seat.old.me.0.state ≡ Idle) × (seat.old.me.0.role ≡ keeping) × ¬ (seat.old.me.0.role ≡ Spent) }
         requires open { (slot_at seat.old.me.0.duties seat.old.me.0.duties.pointed).phase ≡ Open }
@@ -126,7 +140,7 @@ impl Words {
     {
         let slot = self.look(seat);
         let page = page(self.enter(seat, slot, sig));
-        self.finish(seat, slot, page, sig);
+        self.finish(seat, kept, slot, page, sig);
         page
     }
 }

@@ -49,7 +49,11 @@ impl Plane {
             .shared
             .split_seat::<Deals>(&mut keeper.seat);
         keeper.out += 1;
-        Pass { seat, last: None }
+        Pass {
+            seat,
+            last: None,
+            hashes: None,
+        }
     }
 
     pub(crate) fn gather_one(&self, keeper: &mut Keeper, pass: Pass)
@@ -58,7 +62,11 @@ impl Plane {
         requires out { 0 < keeper.old.view.duties.out }
         ensures { keeper.new ≡ gathered_held keeper.old pass.entries }
     {
-        let Pass { seat, last: _ } = pass;
+        let Pass {
+            seat,
+            last: _,
+            hashes: _,
+        } = pass;
         self.words
             .table
             .shared

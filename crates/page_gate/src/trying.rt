@@ -13,13 +13,14 @@ use spie_base::{Entry, PageNo, Sig};
 impl Plane {
     /// One try, which waits for nobody and takes no memory. `Entered(page)`: the entry (page, sig) stands last in the pass's list.
     /// `Sealed`: the gate was sealed, and the list is as before; it never comes while the page that was open at the `deal` is open.
-    /// Costs a load, a fetch-add, k fetch-ors and a fetch-sub.
+    /// Costs k positions, a load, a fetch-add, k fetch-ors and a fetch-sub; the first record of a pass in a page 8·k words of the
+    /// generator more.
     pub fn try_record(&self, pass: &mut Pass, sig: &Sig) -> Tried
         requires plane { pass.old.table ≡ self.now.table }
         ensures plane { pass.new.table ≡ pass.old.table }
         ensures tells { PassTells self.now.shape sig.now pass.old pass.new result }
     {
-        let tried = self.words.record_by(&mut pass.seat, sig);
+        let tried = self.words.record_by(&mut pass.seat, &mut pass.hashes, sig);
         if let Tried::Entered(page) = &tried {
             pass.last = Some(Entry {
                 page: *page,
@@ -37,6 +38,7 @@ impl Plane {
         ensures page { result.number ≡ open_page keeper.old.view.duties }
         ensures recorded { keeper.new ≡ recorded_held keeper.old result sig.now }
     {
-        self.words.record_in_open(&mut keeper.seat, sig)
+        self.words
+            .record_in_open(&mut keeper.seat, &mut keeper.hashes, sig)
     }
 }

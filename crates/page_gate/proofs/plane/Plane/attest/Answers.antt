@@ -4,7 +4,6 @@ use Rattle.spie_base.specs.declared.PageShape.{PageShape}
 use Rattle.gate_core.specs.declared.view.View.{View}
 use Rattle.gate_core.specs.Invariant.{IsWhole}
 use Rattle.gate_core.specs.Acts.{CanLook}
-use Rattle.gate_core.specs.declared.states.PassState.{PassState}
 use Rattle.gate_core.proofs.Alone.{met_whole, met_alone}
 use Rattle.page_gate.specs.Held.{PlaneId, Held, WasAlone}
 use Rattle.page_gate.specs.Steps.{Nothing, IsMet}
