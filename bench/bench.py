@@ -3,18 +3,17 @@
 
     bench/bench.py [PROGRAM]      PROGRAM is crates/spie/out/spie by default
 
-For each input: its lines and bytes, the best of five runs of each program in seconds, their ratio, the
-program's peak memory, and that peak less the input and the report, per line. Inputs are made in a
+For each input: its lines and bytes, the best of seven runs of each program in seconds of processor time, their
+ratio, the program's peak memory, and that peak less the input and the report, per line. Inputs are made in a
 temporary folder and removed.
 """
 import os
 import subprocess
 import sys
 import tempfile
-import time
 
 ROUTERS = 64
-RUNS = 5
+RUNS = 7
 HERE = os.path.dirname(os.path.abspath(__file__))
 
 
@@ -23,11 +22,11 @@ def packet(number):
     return "4500001c%04x0000401100000a%06x0a000002%016x" % (number % 65536, number, number)
 
 
-def front(out):
-    out.write("spie-trace 1\nshape 3 16 60000 1000 8 5000 100 0123456789abcdef\n")
-    for router in range(ROUTERS):
+def front(out, routers=ROUTERS):
+    out.write("spie-trace 1\nshape 3 16 60000 100 8 5000 100 0123456789abcdef\n")
+    for router in range(routers):
         out.write("router r%d east\n" % router)
-    for router in range(ROUTERS - 1):
+    for router in range(routers - 1):
         out.write("link r%d r%d\n" % (router, router + 1))
     out.write("begin\n")
 
@@ -39,6 +38,39 @@ def forwards(out, records):
         out.write("packet %s\n" % packet(number))
     for number in range(records):
         out.write("fwd r%d %d\n" % (number * 7 % ROUTERS, number % 1000))
+    out.write("query r0 0 0\nend\n")
+
+
+def ticks(out, records):
+    """The same with a tick each 1,000 records: every 100 ticks each router's page closes."""
+    front(out)
+    for number in range(1000):
+        out.write("packet %s\n" % packet(number))
+    for number in range(records):
+        out.write("fwd r%d %d\n" % (number * 7 % ROUTERS, number % 1000))
+        if number % 1000 == 999:
+            out.write("tick %d\n" % (number // 1000 + 1))
+    out.write("query r0 0 0\nend\n")
+
+
+def watches(out, count):
+    """As many watches as the other inputs have records, of packets that were recorded and of others."""
+    front(out)
+    for number in range(1000):
+        out.write("packet %s\n" % packet(number))
+    for number in range(500):
+        out.write("fwd r%d %d\n" % (number * 7 % ROUTERS, number))
+    for number in range(count):
+        out.write("watch r%d %d\n" % (number * 7 % ROUTERS, number % 1000))
+    out.write("query r0 0 0\nend\n")
+
+
+def rotations(out, count):
+    """Rotations of one router, with a record before each, and a query."""
+    front(out)
+    out.write("packet %s\n" % packet(0))
+    for number in range(count):
+        out.write("fwd r0 0\nrotate r0\n")
     out.write("query r0 0 0\nend\n")
 
 
@@ -56,12 +88,11 @@ def chains(out, queries):
 
 
 def timed(command, source):
-    """Seconds and peak memory in bytes of one run."""
+    """Seconds of processor time and peak memory in bytes of one run."""
     with open(source, "rb") as stdin, open(os.devnull, "wb") as stdout:
-        begin = time.perf_counter()
         child = subprocess.Popen(command, stdin=stdin, stdout=stdout)
         _, status, usage = os.wait4(child.pid, 0)
-        seconds = time.perf_counter() - begin
+    seconds = usage.ru_utime + usage.ru_stime
     child.returncode = os.waitstatus_to_exitcode(status)
     if child.returncode != 0:
         sys.exit("%s ended with %d" % (command[0], child.returncode))
@@ -86,6 +117,7 @@ def main():
     program = sys.argv[1] if len(sys.argv) > 1 else os.path.join(HERE, "..", "crates", "spie", "out", "spie")
     print("%-16s %9s %10s %8s %8s %6s %10s %6s" % ("input", "lines", "bytes", "spie", "sha256", "ratio", "peak", "B/line"))
     cases = [("fwd 10^%d" % power, forwards, 10 ** power) for power in (4, 5, 6)]
+    cases += [("ticks 10^6", ticks, 10 ** 6), ("watches 10^6", watches, 10 ** 6), ("rotations 4096", rotations, 4096)]
     cases += [("queries %d" % count, chains, count) for count in (16, 64, 256)]
     with tempfile.TemporaryDirectory() as folder:
         for name, make, count in cases:
