@@ -1,5 +1,5 @@
 // Numbered chains over the same places.
-ghost use Rattle.std.specs.Prelude.{◌≡◌, ◌≢◌, ℕ, ◌<◌, ◌≤◌, ◌+◌, List, [], ◌∷◌, ◌++◌, length, Option, Some, None, OnOk, OnErr, slice_index};
+ghost use Rattle.std.specs.Prelude.{◌≡◌, ◌≢◌, ℕ, ◌<◌, ◌≤◌, ◌+◌, List, [], ◌∷◌, ◌++◌, length, Option, Some, None, IfOk, OnOk, OnErr, slice_index};
 ghost use Rattle.index_rings.specs.Rings.{next_of, Lacks, Distinct, without, first_or};
 ghost use Rattle.index_rings.specs.Walk.{places_left};
 ghost use Rattle.index_rings.specs.Orders.{first_of, AreChains, labelled, chains_in, places_in, first_in, Holds};
@@ -28,6 +28,26 @@ impl Chains {
         }
     }
 
+    /// So many chains without a place.
+    pub fn with_chains(alloc: Global, count: usize) -> Result<Chains, AllocError>
+        ensures chains { IfOk result (λ made. chains_in made ≡ count) }
+        ensures places { IfOk result (λ made. places_in made ≡ 0) }
+        ensures holds { IfOk result (λ made. (label : ℕ → ℕ) → Holds made label []) }
+    {
+        let mut made = Chains::new(alloc);
+        for _chain in 0..count {
+            made.add_chain()?;
+        }
+        Ok(made)
+    }
+
+    /// How many chains there are.
+    pub fn len(&self) -> usize
+        ensures { result ≡ chains_in self.now }
+    {
+        self.firsts.len()
+    }
+
     /// Adds an empty chain, whose number is the next one. After an `Err` nothing has changed.
     pub fn add_chain(&mut self) -> Result<(), AllocError>
         ensures more { OnOk result (chains_in self.new ≡ chains_in self.old + 1) }
@@ -36,6 +56,19 @@ impl Chains {
         ensures same { OnErr result (chains_in self.new ≡ chains_in self.old) }
     {
         self.firsts.push(None)?;
+        Ok(())
+    }
+
+    /// Adds empty chains, until there is this one. All chains stay, also where it fails.
+    pub fn cover_chain(&mut self, chain: usize) -> Result<(), AllocError>
+        ensures room { OnOk result (chain < chains_in self.new) }
+        ensures places { places_in self.new ≡ places_in self.old }
+        ensures more { chains_in self.old ≤ chains_in self.new }
+        ensures kept { (label : ℕ → ℕ) → (order : List ℕ) → Holds self.old label order → Holds self.new label order }
+    {
+        while self.firsts.len() <= chain {
+            self.add_chain()?;
+        }
         Ok(())
     }
 

@@ -1,0 +1,5 @@
+pub mod Gathered
+pub mod Counted
+pub mod Moves
+pub mod Tabled
+pub mod Olds
