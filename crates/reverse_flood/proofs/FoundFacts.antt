@@ -5,6 +5,8 @@ use Rattle.std.proofs.lemmas.List.{take_more, take-append-le}
 use Rattle.std.proofs.Math.Seq.{take-length}
 use Rattle.std.proofs.lemmas.Map.Views.{list_any-from_Contains}
 use Rattle.std.specs.List.{Contains}
+use Rattle.std.specs.List.Sorted.{IsStrictlySortedBy}
+use Rattle.spie_base.specs.Order.{sig_cmp}
 use Rattle.std.specs.Option.{option_copied}
 use Rattle.std.specs.Prelude.{is_some, IsSome}
 use Rattle.spie_base.specs.declared.Sig.{Sig}
@@ -13,8 +15,9 @@ use Rattle.spie_base.proofs.Booleans.{or_false}
 use Rattle.reverse_flood.specs.declared.graphs.Node.{Node}
 use Rattle.reverse_flood.specs.declared.graphs.Edge.{Edge}
 use Rattle.reverse_flood.specs.Flood.{Net}
-use Rattle.reverse_flood.specs.Found.{IsWay, found_net, origins_if_hit}
+use Rattle.reverse_flood.specs.Found.{AreAscending, IsWay, found_net, origins_if_hit}
 use Rattle.reverse_flood.specs.Wider.{has_node, node_eq}
+use Rattle.reverse_flood.proofs.Ascents.{sorted_none}
 use Rattle.reverse_flood.proofs.Orders.{same_node, node_laws}
 use Rattle.reverse_flood.proofs.Queues.{has_node-push}
 
@@ -102,3 +105,13 @@ origins_read o p r e is = sym (ap (λ q. unwrap_or q []) (sym e ∙ ap option_co
 pub some_more : {X : Type 0} (b : Bool) (x : X) (o : Option X) → cond b true (is_some o) ≡ is_some (cond b (Some x) o)
 some_more true x o = refl
 some_more false x o = refl
+
+-- the origins of each pair ascend: of none, and of one more
+pub ascend_none : (found : Node → Option (List Sig)) → ((n : Node) → found n ≡ None) → AreAscending found
+ascend_none found none n = let P : Option (List Sig) → Type 0 = λ v. IsStrictlySortedBy sig_cmp (unwrap_or v []) in subst P (sym (none n)) (sorted_none sig_cmp)
+
+pub ascend_more : (node : Node) (sigs : List Sig) (old new : Node → Option (List Sig)) → ((n : Node) → new n ≡ cond (node_eq node n) (Some sigs) (old n)) → IsStrictlySortedBy sig_cmp sigs → AreAscending old → AreAscending new
+ascend_more node sigs old new more ordered ascend n =
+    let P : Option (List Sig) → Type 0 = λ v. IsStrictlySortedBy sig_cmp (unwrap_or v []) in
+    let by : (b : Bool) → P (cond b (Some sigs) (old n)) = elim [ true ↦ ordered | false ↦ ascend n ] in
+    subst P (sym (more n)) (by (node_eq node n))

@@ -1,3 +1,4 @@
+pub mod Ascents
 pub mod Orders
 pub mod Queues
 pub mod RowFacts

@@ -9,9 +9,13 @@ use Rattle.topology.specs.Layout.{is_linked}
 use Rattle.reverse_flood.specs.declared.graphs.Node.{Node}
 use Rattle.reverse_flood.specs.declared.graphs.Edge.{Edge}
 use Rattle.reverse_flood.specs.declared.ways.Origin.{Origin}
-use Rattle.reverse_flood.specs.Flood.{Net, IsStep}
+use Rattle.reverse_flood.specs.Flood.{Net, IsStep, node_cmp}
 use Rattle.reverse_flood.specs.Found.{AddsWays, edge_from, is_inner, is_outer}
-use Rattle.reverse_flood.specs.Steps.{origin_at, IsSigOf, AppendsWays}
+use Rattle.reverse_flood.specs.Steps.{origin_at, origin_cmp, IsSigOf, AppendsWays}
+use Rattle.spie_base.specs.Order.{router_cmp, sig_cmp}
+use Rattle.std.specs.List.Sorted.{IsStrictlySortedBy}
+use Rattle.reverse_flood.proofs.Ascents.{sorted_map, sorted_parts}
+use Rattle.reverse_flood.proofs.Orders.{lower_router, lower_sig}
 use Rattle.spie_base.proofs.Membership.{has_first, has_later, from_map, into_map, from_flat_map, into_flat_map}
 use Rattle.reverse_flood.proofs.StepFacts.{flat_map_next}
 
@@ -71,6 +75,23 @@ steps_same links router near origins linked n =
           let N : Sig → Node = λ t. record { router = n.router; sig = t } in
           into_flat_map (steps_at origins) near n.router n ((linked n.router).1 s.0) (subst At (ap N s.1.is) (into_map (origin_at n.router) origins s.1.origin s.1.has))),
     )
+
+-- they ascend where routers and origins do
+pub steps_ordered : (near : List RouterId) (origins : List Origin) → IsStrictlySortedBy router_cmp near → IsStrictlySortedBy origin_cmp origins → IsStrictlySortedBy node_cmp (flat_map (steps_at origins) near)
+steps_ordered near origins routers sigs =
+    sorted_parts router_cmp node_cmp (steps_at origins) near
+    (λ r. sorted_map origin_cmp node_cmp (origin_at r) origins (λ a b h. lower_sig r a.sig b.sig h) sigs)
+    (λ r q a b h in_r in_q.
+    let i = from_map (origin_at r) origins a in_r in
+    let j = from_map (origin_at q) origins b in_q in
+    lower_router a b (ap (λ (n : Node). router_cmp n.router b.router) (sym i.is) ∙ ap (λ (n : Node). router_cmp r n.router) (sym j.is) ∙ h))
+    routers
+
+-- origins ascend where their signatures do
+pub origins_ordered : (f : Sig → Option ℕ) (sigs : List Sig) (origins : List Origin) → origins ≡ map (λ s. record { sig = s; row = f s }) sigs → IsStrictlySortedBy sig_cmp sigs → IsStrictlySortedBy origin_cmp origins
+origins_ordered f sigs origins is ordered =
+    let O : Sig → Origin = λ s. record { sig = s; row = f s } in
+    subst (λ l. IsStrictlySortedBy origin_cmp l) (sym is) (sorted_map sig_cmp origin_cmp O sigs (λ a b h. h) ordered)
 
 -- an origin of some signatures
 pub sig_same : (f : Sig → Option ℕ) (sigs : List Sig) (origins : List Origin) → origins ≡ map (λ s. record { sig = s; row = f s }) sigs → (n : Node) → IsSigOf origins n ↔ Contains sigs n.sig
@@ -141,5 +162,6 @@ adds_ways net links p q down f sigs os before after linked origins is agree a = 
         (λ h. let s = (a.same n).0 h in record { linked = subst Joined (sym linked) s.0; origin = subst Has origins ((sig_same f sigs os is n).0 s.1) }),
         (λ (s : IsStep net down n). (a.same n).1 (subst Joined linked s.linked, (sig_same f sigs os is n).1 (subst Has (sym origins) s.origin))),
       );
+  ordered = a.ordered;
   added = a.added ∙ ap (λ (x : List Node). before ++ map (edge_from down) x) (filter_same p q a.steps (λ n h. agree n ((a.same n).0 h).0));
 }

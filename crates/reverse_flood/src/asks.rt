@@ -3,7 +3,7 @@ ghost use Rattle.std.specs.Prelude.{is_some, ◌≡◌, ◌<◌, ◌≤◌, ◌&
 ghost use Rattle.std.specs.HashMap.{get};
 ghost use Rattle.std.specs.List.{Contains};
 ghost use Rattle.reverse_flood.specs.Flood.{net_of, is_within, is_hit, IsAsked};
-ghost use Rattle.reverse_flood.specs.Found.{origins_if_hit};
+ghost use Rattle.reverse_flood.specs.Found.{AreAscending, origins_if_hit};
 ghost use Rattle.reverse_flood.specs.Queue.{IsQueue};
 ghost use Rattle.reverse_flood.specs.Rows.{IsSetOf};
 ghost use Rattle.reverse_flood.specs.Wider.{node_eq, IsVisited};
@@ -45,7 +45,9 @@ fn ask_one<S: Sighting>(
     requires few { length topology.now.names ≤ ROUTERS_MOST }
     requires exist { (n : Node) → Contains asked.old.queue.items n → n.router.number < length topology.now.names }
     requires fine { IsQueue asked.old }
+    requires ascend { AreAscending (get node_eq found.old) }
     requires hits { IsSetOf hits.old (λ n. is_some (get node_eq found.old n)) }
+    ensures ascend { OnOk result (AreAscending (get node_eq found.new)) }
     ensures hits { OnOk result (IsSetOf hits.new (λ n. is_some (get node_eq found.new n))) }
     ensures fine { OnOk result (IsQueue asked.new) }
     ensures visited { OnOk result (IsVisited (net_of S.shown sights.now topology.now) (is_within topology.now within) asked.old.queue.items node asked.new.queue.items) }
@@ -76,6 +78,7 @@ pub(crate) fn ask<S: Sighting>(
     requires exist { (n : Node) → Contains entries.now n → n.router.number < length topology.now.names }
     ensures asked { IfOk result (λ s. (n : Node) → Contains s.asked.items n ↔ IsAsked (net_of S.shown sights.now topology.now) (is_within topology.now within) entries.now n) }
     ensures found { IfOk result (λ s. (n : Node) → Contains s.asked.items n → get node_eq s.found n ≡ origins_if_hit (net_of S.shown sights.now topology.now) n) }
+    ensures ascend { IfOk result (λ s. AreAscending (get node_eq s.found)) }
     ensures hits { IfOk result (λ s. IsSetOf s.hits (λ n. is_some (get node_eq s.found n))) }
     ensures few { OnOk result (length topology.now.names ≤ ROUTERS_MOST) }
     ensures exist { IfOk result (λ s. (n : Node) → Contains s.asked.items n → n.router.number < length topology.now.names) }

@@ -34,10 +34,10 @@ pub fn flood_within<S: Sighting>(
     let ways = ways_from(alloc, topology, &found, &search.hits, within, &told.nodes)?;
     Ok(Part {
         nodes: List::of(told.nodes),
-        edges: ascending(ways.inner),
+        edges: List::of(ways.inner),
         unknown: List::of(told.unknown),
         clear: List::of(told.clear),
-        exits: ascending(ways.outer),
+        exits: List::of(ways.outer),
     })
 }
 

@@ -4,10 +4,11 @@ ghost use Rattle.std.specs.BTreeMap.{get as get_row};
 ghost use Rattle.std.specs.HashMap.{get};
 ghost use Rattle.spie_base.specs.Order.{sig_cmp};
 ghost use Rattle.std.specs.List.{Contains};
-ghost use Rattle.reverse_flood.specs.Flood.{is_missing, is_within};
-ghost use Rattle.reverse_flood.specs.Found.{edge_from, found_net, is_unseen, is_inner, is_outer, AddsWays, IsWay};
+ghost use Rattle.std.specs.List.Sorted.{IsStrictlySortedBy};
+ghost use Rattle.reverse_flood.specs.Flood.{is_missing, is_within, node_cmp, edge_cmp};
+ghost use Rattle.reverse_flood.specs.Found.{AreAscending, edge_from, found_net, is_unseen, is_inner, is_outer, AddsWays, IsWay};
 ghost use Rattle.reverse_flood.specs.Rows.{is_in, AreRows, IsSetOf};
-ghost use Rattle.reverse_flood.specs.Steps.{origin_at, AppendsWays};
+ghost use Rattle.reverse_flood.specs.Steps.{origin_at, origin_cmp, AppendsWays};
 ghost use Rattle.reverse_flood.specs.Wider.{node_eq};
 ghost use Rattle.reverse_flood.specs.declared.graphs.Edge.{Edge};
 ghost use Rattle.reverse_flood.specs.declared.graphs.Node.{Node};
@@ -188,6 +189,7 @@ fn push_all_ways(
     requires few { length topology.now.names ≤ ROUTERS_MOST }
     requires rows { AreRows (get_row sig_cmp hits.now.rows) (length hits.now.flags.items) }
     requires origins { (o : Origin) → Contains origins.now o → get_row sig_cmp hits.now.rows o.sig ≡ o.row }
+    requires ascend { IsStrictlySortedBy origin_cmp origins.now }
     ensures inner { OnOk result (AppendsWays topology.now.links (is_inner (is_within topology.now within) (is_in hits.now)) down origins.now ways.old.inner.items ways.new.inner.items) }
     ensures outer { OnOk result (AppendsWays topology.now.links (is_outer (is_within topology.now within)) down origins.now ways.old.outer.items ways.new.outer.items) }
 {
@@ -211,6 +213,7 @@ fn push_ways_from(
     requires few { length topology.now.names ≤ ROUTERS_MOST }
     requires hits { IsSetOf hits.now (λ n. is_some (get node_eq found.now n)) }
     requires known { IsSome (get node_eq found.now node) }
+    requires ascend { AreAscending (get node_eq found.now) }
     ensures inner { OnOk result (AddsWays (found_net (get node_eq found.now) topology.now) (is_inner (is_within topology.now within) (λ n. is_some (get node_eq found.now n))) node ways.old.inner.items ways.new.inner.items) }
     ensures outer { OnOk result (AddsWays (found_net (get node_eq found.now) topology.now) (is_outer (is_within topology.now within)) node ways.old.outer.items ways.new.outer.items) }
 {
@@ -234,6 +237,10 @@ pub(crate) fn ways_from(
     requires few { length topology.now.names ≤ ROUTERS_MOST }
     requires hits { IsSetOf hits.now (λ n. is_some (get node_eq found.now n)) }
     requires known { (n : Node) → Contains nodes.now n → IsSome (get node_eq found.now n) }
+    requires ascend { AreAscending (get node_eq found.now) }
+    requires ordered { IsStrictlySortedBy node_cmp nodes.now }
+    ensures inner_ordered { IfOk result (λ ways. IsStrictlySortedBy edge_cmp ways.inner.items) }
+    ensures outer_ordered { IfOk result (λ ways. IsStrictlySortedBy edge_cmp ways.outer.items) }
     ensures inner { IfOk result (λ ways. (e : Edge) → Contains ways.inner.items e ↔ IsWay (found_net (get node_eq found.now) topology.now) (is_inner (is_within topology.now within) (λ n. is_some (get node_eq found.now n))) nodes.now e) }
     ensures outer { IfOk result (λ ways. (e : Edge) → Contains ways.outer.items e ↔ IsWay (found_net (get node_eq found.now) topology.now) (is_outer (is_within topology.now within)) nodes.now e) }
 {

@@ -2,7 +2,7 @@ use Rattle.std.proofs.Common.{◌≡◌, ◌<◌, ◌≤◌, sym, length, arith,
 use Rattle.std.specs.HashMap.{get}
 use Rattle.reverse_flood.specs.Flood.{net_of, is_within}
 use Rattle.reverse_flood.specs.Wider.{node_eq}
-use Rattle.reverse_flood.proofs.FoundFacts.{found_more, found_done}
+use Rattle.reverse_flood.proofs.FoundFacts.{ascend_none, found_more, found_done}
 use Rattle.reverse_flood.proofs.Worklists.{entered_each, progress_none, progress_more, progress_done}
 use Rattle.reverse_flood.proofs.asks.ask.Goals as goal
 
@@ -13,6 +13,7 @@ loop-next-init g c =
       progress = progress_none _ _ c.args.entries.now c.add_each.new.asked.queue.items entered;
       fine = c.in_ok-add_each.ensures.fine;
       hits = search rules;
+      ascend = ascend_none (get node_eq c.new-found.result) (λ n. search rules);
       few = c.topology_is_sound.ensures.few_routers;
       found = λ n. search rules;
       exist = λ n h. c.requires.exist n ((entered n).0 h);
@@ -34,6 +35,7 @@ loop-next-preserved g c =
           c.loop-next.invariant.found c.in_ok-ask_one.ensures.found;
       fine = c.in_ok-ask_one.ensures.fine;
       hits = c.in_ok-ask_one.ensures.hits;
+      ascend = c.in_ok-ask_one.ensures.ascend;
       few = c.loop-next.invariant.few;
       exist = c.in_ok-ask_one.ensures.exist;
     }

@@ -4,6 +4,7 @@ use Rattle.std.specs.List.{Contains}
 use Rattle.reverse_flood.specs.declared.graphs.Node.{Node}
 use Rattle.reverse_flood.specs.Flood.{net_of, is_within}
 use Rattle.std.specs.Prelude.{is_some}
+use Rattle.reverse_flood.specs.Found.{AreAscending}
 use Rattle.reverse_flood.specs.Queue.{IsQueue}
 use Rattle.reverse_flood.specs.Rows.{IsSetOf}
 use Rattle.reverse_flood.specs.Wider.{node_eq}
@@ -17,6 +18,7 @@ invariant-loop-next g l =
     record {
       fine : IsQueue l.asked;
       hits : IsSetOf l.hits (λ n. is_some (get node_eq l.found n));
+      ascend : AreAscending (get node_eq l.found);
       few : length l.topology.names ≤ 64;
       progress : IsProgress net (is_within l.topology l.within) l.entries l.asked.queue.items l.next;
       found : (n : Node) → get node_eq l.found n ≡ found_of net (take l.next l.asked.queue.items) n;

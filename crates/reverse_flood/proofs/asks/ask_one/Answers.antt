@@ -1,12 +1,14 @@
 use Rattle.std.proofs.Common.{◌≡◌, ◌<◌, true, false, cond, refl, sym, ap, subst, ◌∙◌, [], List, length, arith, rules, Option, Some}
 use Rattle.std.specs.HashMap.{get}
 use Rattle.std.specs.List.{Contains}
+use Rattle.std.specs.List.Sorted.{IsStrictlySortedBy}
+use Rattle.spie_base.specs.Order.{sig_cmp}
 use Rattle.std.specs.Prelude.{is_some}
 use Rattle.spie_base.specs.declared.Sig.{Sig}
 use Rattle.spie_base.specs.declared.RouterId.{RouterId}
 use Rattle.reverse_flood.specs.Flood.{net_of, is_within}
 use Rattle.reverse_flood.specs.Wider.{node_eq}
-use Rattle.reverse_flood.proofs.FoundFacts.{found_hit, found_unseen, some_more}
+use Rattle.reverse_flood.proofs.FoundFacts.{ascend_more, found_hit, found_unseen, some_more}
 use Rattle.reverse_flood.proofs.StepFacts.{at_router}
 use Rattle.reverse_flood.proofs.Worklists.{visited_near, visited_unseen, exist_near}
 use Rattle.reverse_flood.proofs.asks.ask_one.Goals as goal
@@ -65,3 +67,8 @@ returns-else-hit-clause-found g c = λ n.
     let here : c.args.node.router.number < length c.args.sights.now = omega arith in
     let unseen : net.hit c.args.node ≡ false = at_router (λ s. (g.S.Sighting.shown s).hit c.args.node.sig) false c.args.sights.now _ c.args.node.router.number c.index-sights-node.result refl here c.index-sights-node.is ∙ sym c.hit.ensures ∙ c.if-hit.false in
     found_unseen (node_eq c.args.node n) (net.hit c.args.node) (Some (net.origins c.args.node)) (get node_eq c.args.found.now n) unseen
+
+pub returns-in_ok-insert-clause-ascend : goal.returns-in_ok-insert-clause-ascend
+returns-in_ok-insert-clause-ascend g c =
+    let Sorted : List Sig → Type 0 = λ l. IsStrictlySortedBy sig_cmp l in
+    ascend_more c.args.node c.of.result (get node_eq c.args.found.now) (get node_eq c.insert.new.self) c.in_ok-insert.ensures.updates.0 (subst Sorted (sym c.of.ensures) c.in_ok-origins.ensures.ascending) c.requires.ascend

@@ -4,7 +4,9 @@ use Rattle.std.specs.List.{filter, Contains}
 use Rattle.std.specs.Prelude.{is_some}
 use Rattle.reverse_flood.specs.declared.graphs.Node.{Node}
 use Rattle.reverse_flood.specs.declared.graphs.Edge.{Edge}
-use Rattle.reverse_flood.specs.Flood.{net_of, is_within, is_missing}
+use Rattle.reverse_flood.specs.Flood.{net_of, is_within, is_missing, node_cmp, edge_cmp}
+use Rattle.std.specs.List.Sorted.{IsStrictlySortedBy}
+use Rattle.std.proofs.lemmas.List.Kept.{IsStrictlySortedBy-filter}
 use Rattle.reverse_flood.specs.Found.{IsWay, found_net, is_inner, is_outer, is_unseen}
 use Rattle.reverse_flood.specs.Wider.{node_eq}
 use Rattle.reverse_flood.proofs.FoundFacts.{is_some-origins, origins_of_hit, ways_same}
@@ -55,6 +57,8 @@ returns g c =
     let same = ways_same net found c.args.topology.now p c.deref.result.now refl origins e in
     let P : List Node → Type 0 = λ l. Contains edges e ↔ IsWay net p l e in
     subst P nodes ((λ h. same.0 ((all e).0 h)), (λ w. (all e).1 (same.1 w))) in
+    let Sorted : List Edge → Type 0 = λ l. IsStrictlySortedBy edge_cmp l in
+    let Are : (Node → Bool) → Edge → List Edge → Type 0 = λ p e l. Contains l e ↔ IsWay net p c.of.result e in
     let part = part_is net inside c.args.entries.now asked known _
     c.ascending-asked.ensures.ordered
     (λ n. (
@@ -63,20 +67,23 @@ returns g c =
     ))
     tells
     (c.of.ensures ∙ c.in_ok-told.ensures.nodes ∙ ap (filter known) c.items.ensures)
-    (c.of-2.ensures ∙ c.in_ok-told.ensures.unknown ∙ ap (filter (unseen true)) c.items.ensures)
-    (c.of-3.ensures ∙ c.in_ok-told.ensures.clear ∙ ap (filter (unseen false)) c.items.ensures)
+    (c.of-3.ensures ∙ c.in_ok-told.ensures.unknown ∙ ap (filter (unseen true)) c.items.ensures)
+    (c.of-4.ensures ∙ c.in_ok-told.ensures.clear ∙ ap (filter (unseen false)) c.items.ensures)
     (record {
-      ascending = c.ascending.ensures.ordered;
-      same = λ e. (
-        (λ h. (ways (is_inner inside known) c.in_ok-ways.ways.inner.items c.in_ok-ways.ensures.inner e).0 ((c.ascending.ensures.same e).0 h)),
-        (λ h. (c.ascending.ensures.same e).1 ((ways (is_inner inside known) c.in_ok-ways.ways.inner.items c.in_ok-ways.ensures.inner e).1 h)),
-      );
+      ascending = subst Sorted (sym c.of-2.ensures) c.in_ok-ways.ensures.inner_ordered;
+      same = λ e. subst (Are (is_inner inside known) e) (sym c.of-2.ensures) (ways (is_inner inside known) c.in_ok-ways.ways.inner.items c.in_ok-ways.ensures.inner e);
     })
     (record {
-      ascending = c.ascending-2.ensures.ordered;
-      same = λ e. (
-        (λ h. (ways (is_outer inside) c.in_ok-ways.ways.outer.items c.in_ok-ways.ensures.outer e).0 ((c.ascending-2.ensures.same e).0 h)),
-        (λ h. (c.ascending-2.ensures.same e).1 ((ways (is_outer inside) c.in_ok-ways.ways.outer.items c.in_ok-ways.ensures.outer e).1 h)),
-      );
+      ascending = subst Sorted (sym c.of-5.ensures) c.in_ok-ways.ensures.outer_ordered;
+      same = λ e. subst (Are (is_outer inside) e) (sym c.of-5.ensures) (ways (is_outer inside) c.in_ok-ways.ways.outer.items c.in_ok-ways.ensures.outer e);
     }) in
     record { part = part }
+
+pub ways_from-requires-clause-ordered : goal.ways_from-requires-clause-ordered
+ways_from-requires-clause-ordered g c =
+    let asked = c.ascending-asked.result in
+    let found = get node_eq c.in_ok-search.search.found in
+    let known : Node → Bool = λ n. is_some (found n) in
+    let all_hits : c.deref.result.now ≡ filter known asked = c.deref.ensures.value ∙ c.in_ok-told.ensures.nodes ∙ ap (filter known) c.items.ensures in
+    let Sorted : List Node → Type 0 = λ l. IsStrictlySortedBy node_cmp l in
+    subst Sorted (sym all_hits) (IsStrictlySortedBy-filter node_cmp known asked c.ascending-asked.ensures.ordered)

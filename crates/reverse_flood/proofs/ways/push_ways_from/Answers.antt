@@ -1,6 +1,8 @@
-use Rattle.std.proofs.Common.{◌≡◌, ◌∙◌, refl, ap, arith}
+use Rattle.std.proofs.Common.{◌≡◌, ◌∙◌, refl, sym, subst, ap, List, arith}
 use Rattle.std.specs.BTreeMap.{get as get_row}
 use Rattle.std.specs.HashMap.{get}
+use Rattle.std.specs.List.Sorted.{IsStrictlySortedBy}
+use Rattle.spie_base.specs.declared.Sig.{Sig}
 use Rattle.std.specs.Prelude.{is_some}
 use Rattle.spie_base.specs.Order.{sig_cmp}
 use Rattle.reverse_flood.specs.Rows.{is_in}
@@ -9,7 +11,7 @@ use Rattle.reverse_flood.specs.Wider.{node_eq}
 use Rattle.reverse_flood.specs.Flood.{is_within}
 use Rattle.std.proofs.Common.{◌&&◌}
 use Rattle.reverse_flood.proofs.FoundFacts.{some_copied, origins_read}
-use Rattle.reverse_flood.proofs.OriginFacts.{adds_ways, row_same}
+use Rattle.reverse_flood.proofs.OriginFacts.{adds_ways, origins_ordered, row_same}
 use Rattle.reverse_flood.proofs.ways.push_ways_from.Goals as goal
 
 pub unwrap-origins-requires : goal.unwrap-origins-requires
@@ -17,6 +19,12 @@ unwrap-origins-requires c = some_copied c.get.result (get node_eq c.args.found.n
 
 pub push_all_ways-requires-clause-origins : goal.push_all_ways-requires-clause-origins
 push_all_ways-requires-clause-origins c = row_same (get_row sig_cmp c.args.hits.now.rows) c.items.result.now c.deref.result.now (c.deref.ensures.value ∙ c.in_ok-origins.ensures)
+
+pub push_all_ways-requires-clause-ascend : goal.push_all_ways-requires-clause-ascend
+push_all_ways-requires-clause-ascend c =
+    let Sorted : List Sig → Type 0 = λ l. IsStrictlySortedBy sig_cmp l in
+    origins_ordered (get_row sig_cmp c.args.hits.now.rows) c.items.result.now c.deref.result.now (c.deref.ensures.value ∙ c.in_ok-origins.ensures)
+    (subst Sorted (sym (c.items.ensures ∙ origins_read c.get.result (get node_eq c.args.found.now c.args.node) c.unwrap-origins.result c.get.ensures.value c.unwrap-origins.ensures)) (c.requires.ascend c.args.node))
 
 pub returns-clause-inner : goal.returns-clause-inner
 returns-clause-inner c =
