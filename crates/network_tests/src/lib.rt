@@ -1,4 +1,4 @@
-//! Tests of what `topology` and `reverse_flood` hand out. They stand in a crate of their own, so that those crates
+//! Tests of what `topology`, `reverse_flood` and the crates of regions hand out. They stand in a crate of their own, so that those crates
 //! are proved once and not once more with their tests.
 #![tactic(auto)]
 

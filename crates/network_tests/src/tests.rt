@@ -1,2 +1,3 @@
 mod floods;
+mod regions;
 mod topologies;

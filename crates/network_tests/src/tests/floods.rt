@@ -17,9 +17,9 @@ const RECORDERS: [(u8, bool); 4] = [(1, true), (7, true), (7, false), (1, false)
 
 // Has recorded what begins with one byte, and has transformed nothing.
 #[derive(Drop)]
-struct Recorder {
-    first: u8,
-    missing: bool,
+pub struct Recorder {
+    pub first: u8,
+    pub missing: bool,
 }
 
 impl Sighting for Recorder {

@@ -1,0 +1,4 @@
+pub mod Pairs
+pub mod Rounds
+pub mod Entries
+pub mod Joins
