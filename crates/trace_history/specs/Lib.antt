@@ -6,6 +6,7 @@ pub mod Receipts
 pub mod Replay
 pub mod Report
 pub mod Routers
+pub mod Routes
 pub mod Sights
 pub mod Watched
 pub mod Workers
