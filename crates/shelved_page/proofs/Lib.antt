@@ -1,0 +1,3 @@
+pub mod Discards
+pub mod Backs
+pub mod Lengths
