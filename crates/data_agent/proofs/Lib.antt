@@ -1,0 +1,11 @@
+pub mod Counts
+pub mod Ordered
+pub mod Origins
+pub mod Passing
+pub mod Results
+pub mod Rows
+pub mod Runs
+pub mod Seeing
+pub mod Steps
+pub mod Watching
+pub mod Windows

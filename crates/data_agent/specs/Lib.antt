@@ -1,0 +1,5 @@
+pub mod Calls
+pub mod Passing
+pub mod Residents
+pub mod Seeing
+pub mod Standing

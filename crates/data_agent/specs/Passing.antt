@@ -1,0 +1,35 @@
+-- What the parts of a barrier do. Of these words only `StandsForSame` stands in a public clause.
+use Rattle.std.specs.Prelude.{ℕ, ◌≡◌, Bool, true, false, Option, None, Some, option_map, if◌then◌else◌}
+use Rattle.spie_base.specs.declared.Rules.{Rules}
+use Rattle.page_catalogue.specs.Pages.{is_due, open_page}
+use Rattle.router_account.specs.Account.{Account, after_tick, fill}
+use Rattle.router_account.specs.Barriers.{closing_at}
+use Rattle.router_account.specs.Ledger.{Ledger, Unfinished}
+use Rattle.data_agent.specs.declared.agent.Agent.{Agent}
+use Rattle.data_agent.specs.declared.outcome.Closed.{Closed}
+use Rattle.data_agent.specs.Calls.{closing_of}
+use Rattle.data_agent.specs.Standing.{StandsFor}
+
+-- the agent stands for a ledger with the same entries and rows
+abbrev pub StandsForSame : Agent → Rules → Ledger → Type 0
+StandsForSame agent rules l =
+    (after : Ledger) × (u : Unfinished) × StandsFor agent rules after u
+    × (after.account.router ≡ l.account.router) × (after.account.entries ≡ l.account.entries) × (after.account.rows ≡ l.account.rows)
+
+-- how many bits the open page has, where a tick closes it
+abbrev pub IsDueBits : Rules → Account → (clock : ℕ) → Option ℕ → Type 0
+IsDueBits rules a clock None = is_due rules a.closings clock (fill rules a (open_page a.closings)) ≡ false
+IsDueBits rules a clock (Some bits) = (bits ≡ fill rules a (open_page a.closings)) × (is_due rules a.closings clock (fill rules a (open_page a.closings)) ≡ true)
+
+-- a tick, if it is one, closed what is due
+abbrev pub ticked_at : Rules → Ledger → (clock : ℕ) → (tick : Bool) → Ledger
+ticked_at rules l clock tick = record l { account = if tick then after_tick rules l.account clock else l.account }
+
+-- pages were expired at this clock
+abbrev pub expired_at : Ledger → (clock : ℕ) → Ledger
+expired_at l clock = record l { closings_then = l.account.closings; clock_then = clock }
+
+-- and the agent stands for that, and tells which page was closed
+pub record IsTicked (rules : Rules) (l : Ledger) (u : Unfinished) (clock : ℕ) (tick : Bool) (closed : Option Closed) (after : Agent) : Type 0 where
+  pub told : option_map closing_of closed ≡ closing_at rules l clock tick
+  pub stands : StandsFor after rules (ticked_at rules l clock tick) u

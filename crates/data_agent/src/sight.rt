@@ -1,0 +1,154 @@
+// What a query sees of a router.
+ghost use Rattle.std.specs.Prelude.{◌≡◌, ◌++◌, ◌≤◌, ◌<◌, ◌+◌, ℕ, true, IfOk, OnOk, OnErr};
+ghost use Rattle.spie_base.specs.Causes.{RoseBy};
+ghost use Rattle.spie_base.specs.declared.Rules.{Rules as TheRules};
+ghost use Rattle.page_shelf.specs.Shelves.{IsSame};
+ghost use Rattle.router_account.specs.Ledger.{Ledger, Unfinished};
+ghost use Rattle.router_account.specs.Records.{Holds, AreTrue, AllFailed};
+ghost use Rattle.router_account.specs.Sights.{failures};
+ghost use Rattle.packet_signature.specs.Row.{key_of};
+ghost use Rattle.transform_table.specs.Tables.{with_key};
+ghost use Rattle.data_agent.specs.Calls.{MayAsk, IsSeen};
+ghost use Rattle.data_agent.specs.Seeing.{undone_in, shown_by, told_by, expired_in};
+ghost use Rattle.data_agent.specs.Standing.{StandsFor};
+
+use crate::{Agent, Resident};
+use packet_signature::{inverse, key};
+use page_shelf::Shelf;
+use router_account::Unreadable;
+use spie_base::{List, NoMemory, PageNo, PageRange, Sig, Sighting, ascending};
+use std::alloc::Global;
+use transform_table::Table;
+
+/// What a query sees of a router. It borrows the agent's pages.
+#[derive(Drop)]
+pub struct Sight<'a> {
+    pub(crate) pages: Vec<&'a Resident>,
+    // Of pages from the first to the last the rows are used.
+    pub(crate) rows: &'a Table,
+    pub(crate) first: u32,
+    pub(crate) last: u32,
+    pub(crate) expired: Option<PageRange>,
+    pub(crate) unreadable: List<Unreadable>,
+    pub(crate) used: List<PageNo>,
+}
+
+impl<'a> Sight<'a> {
+    /// The expired pages of the window.
+    pub fn expired(&self) -> Option<PageRange>
+        ensures { result ≡ (told_by self.now).expired }
+    {
+        self.expired
+    }
+
+    /// The pages of the window that could not be read, ascending.
+    pub fn unreadable(&self) -> &[Unreadable]
+        ensures { result.now ≡ (told_by self.now).unreadable }
+    {
+        self.unreadable.items()
+    }
+
+    /// The pages that the query uses, ascending.
+    pub fn used(&self) -> &[PageNo]
+        ensures { result.now ≡ (told_by self.now).used }
+    {
+        self.used.items()
+    }
+
+    // Adds what the rows of the pages say that a signature was before.
+    fn undo(&self, olds: &mut Vec<Sig>, sig: &Sig) -> Result<(), NoMemory>
+        ensures { OnOk result (olds.new.items ≡ olds.old.items ++ undone_in self.now.first self.now.last sig.now (with_key (key_of sig.now) self.now.rows.now)) }
+    {
+        for (page, row) in self.rows.find(key(sig)) {
+            if self.first <= page.number && page.number <= self.last {
+                olds.push(inverse(&row, sig))?;
+            }
+        }
+        Ok(())
+    }
+}
+
+impl<'a> Sighting for Sight<'a> {
+    ghost shown = { shown_by };
+
+    fn hit(&self, sig: &Sig) -> bool {
+        for page in &self.pages {
+            if page.has(sig) {
+                return true;
+            }
+        }
+        false
+    }
+
+    fn origins(&self, alloc: Global, sig: &Sig) -> Result<Vec<Sig>, NoMemory> {
+        let mut olds = vec![in alloc; *sig]?;
+        self.undo(&mut olds, sig)?;
+        Ok(ascending(olds).into_vec())
+    }
+
+    fn has_missing(&self) -> bool {
+        self.expired.is_some()
+    }
+}
+
+// The pages of a window before the first that has not expired.
+fn expired_pages(window: PageRange, first: u32) -> Option<PageRange>
+    ensures { result ≡ expired_in window.first.number window.last.number first }
+{
+    if first <= window.first.number {
+        return None;
+    }
+    Some(PageRange {
+        first: window.first,
+        last: PageNo {
+            number: window.last.number.min(first - 1),
+        },
+    })
+}
+
+impl Agent {
+    // The table of rows.
+    fn table(&self) -> &Table
+        ensures { result.now ≡ self.now.table }
+    {
+        &self.table
+    }
+
+    /// What a query for a time sees. The sight borrows the pages of the window that are in memory, and copies none.
+    pub fn sight<H: Shelf>(
+        &self,
+        alloc: Global,
+        shelf: &mut H,
+        time: u64,
+    ) -> Result<Sight<'_>, NoMemory>
+        requires past { MayAsk (StandsFor self.now) time }
+        ensures later { H.faults shelf.old ≤ H.faults shelf.new }
+        ensures still { H.tells shelf.new ≡ H.tells shelf.old }
+        ensures seen { IfOk result (λ s. (rules : TheRules) (l : Ledger) (u : Unfinished) → StandsFor self.now rules l u → IsSeen rules l time (shown_by s) (told_by s)) }
+        ensures paid { IfOk result (λ s. RoseBy (failures (told_by s).reading) (H.faults shelf.old) (H.faults shelf.new)) }
+        ensures all_true { IfOk result (λ s. (rules : TheRules) (l : Ledger) (u : Unfinished) → StandsFor self.now rules l u → H.tells shelf.old ≡ true
+            → Holds rules (H.contents shelf.old) l → AreTrue rules l.account (told_by s).reading) }
+        ensures only_faults { IfOk result (λ s. (rules : TheRules) (l : Ledger) (u : Unfinished) → StandsFor self.now rules l u → H.tells shelf.old ≡ true
+            → Holds rules (H.contents shelf.old) l → AllFailed (told_by s).reading) }
+        ensures unchanged { OnOk result (H.tells shelf.old ≡ true → IsSame (H.contents shelf.old) (H.contents shelf.new)) }
+    {
+        let window = self.catalogue.window(time);
+        let first = self.first();
+        let from = first.max(window.first.number);
+        let mut pages = Vec::new(alloc);
+        let mut used = Vec::new(alloc);
+        'pages: for number in from..window.last.number + 1 {
+            pages.push(self.resident(number))?;
+            used.push(PageNo { number })?;
+        }
+        Ok(Sight {
+            pages,
+            rows: self.table(),
+            first: from,
+            last: window.last.number,
+            expired: expired_pages(window, first),
+            unreadable: List::of(Vec::new(alloc)),
+            used: List::of(used),
+        })
+    }
+}
