@@ -1,113 +1,64 @@
--- A query's answer is the flood over what it reads.
-use Rattle.std.proofs.Common.{ℕ, zero, suc, ◌≡◌, ◌+◌, ◌<◌, ◌≤◌, ◌∷◌, [], ◌++◌, ◌∙◌, false, List, length, map, get_or, sym, ap, refl, subst, arith, append-nil, length-append}
+-- A query is answered behind its barrier.
+use Rattle.std.proofs.Common.{ℕ, ◌≡◌, ◌≤◌, ◌<◌, ◌+◌, ◌^◌, ◌∷◌, [], ◌++◌, ◌∙◌, true, false, List, length, map, get_or, sym, ap, refl, subst, arith, length-append}
 use Rattle.std.specs.Prelude.{slice_get, Some, unwrap_or, option_map, fold}
 use Rattle.std.specs.declared.option.Option.{Option}
 use Rattle.std.specs.Bool.{IsTrue}
-use Rattle.std.specs.List.{Contains}
+use Rattle.std.specs.List.{All, Contains, flat_map}
 use Rattle.std.proofs.lemmas.Grind.{flat_map-append}
-use Rattle.spie_base.specs.Shapes.{shape_of}
+use Rattle.spie_base.specs.Causes.{RoseBy}
+use Rattle.spie_base.specs.Shown.{Shown}
+use Rattle.spie_base.specs.declared.PageNo.{PageNo}
+use Rattle.spie_base.specs.declared.PageRange.{PageRange}
 use Rattle.spie_base.specs.declared.RouterId.{RouterId}
 use Rattle.spie_base.specs.declared.Sig.{Sig}
-use Rattle.bloom_page.specs.Sets.{PageSet, are_in}
-use Rattle.hash_family.specs.Positions.{positions_by}
-use Rattle.hash_family.proofs.PositionFacts.{marks_of-family}
 use Rattle.topology.specs.Layout.{is_linked}
 use Rattle.reverse_flood.specs.declared.Graph.{Graph}
-use Rattle.reverse_flood.specs.Flood.{Net, net_of, IsFlood}
+use Rattle.reverse_flood.specs.Flood.{net_of, IsFlood}
+use Rattle.report_text.specs.declared.Bad.{Bad}
 use Rattle.report_text.specs.declared.Item.{Item}
 use Rattle.report_text.specs.declared.Item.TheVariants as item
 use Rattle.trace_format.specs.declared.Line.{Line}
 use Rattle.trace_format.specs.declared.Trace.{Trace}
 use Rattle.trace_format.specs.declared.What.{What}
-use Rattle.trace_format.specs.declared.What.TheVariants.{Query, End}
+use Rattle.trace_format.specs.declared.What.TheVariants as what
+use Rattle.trace_format.specs.Sound.{IsWithin, FitsClock}
+use Rattle.router_account.specs.declared.Unreadable.{Unreadable}
+use Rattle.router_account.specs.Account.{Sight, hit, origins, window}
+use Rattle.router_account.specs.Ledger.{Ledger, nothing_unfinished}
+use Rattle.router_account.specs.Records.{HaveDigests, AreTrue, AllFailed}
+use Rattle.router_account.specs.Shelves.{ShelfView}
+use Rattle.router_account.specs.Sights.{Reading, UnreadPage, IsRead, sight_by, used_by, expired_by, page_no, range_of, unreadable_of, failures, no_reading}
+use Rattle.data_agent.specs.declared.Barrier.{Barrier}
+use Rattle.data_agent.specs.Calls.{Told}
 use Rattle.trace_history.specs.declared.Totals.{Totals}
-use Rattle.router_account.specs.Account.{Account, below, page_set, marks}
-use Rattle.trace_history.specs.History.{queried, ended, History, IsEventOf, account}
+use Rattle.trace_history.specs.History.{Event, queried, History, QueryRun, IsEventOf, clock}
 use Rattle.trace_history.specs.Ledgers.{ledger}
-use Rattle.trace_history.specs.Report.{AreItemsOf, text_of, totals_of, with_answer, no_totals, pages_item, graph_items, answer_item}
-use Rattle.trace_history.specs.Routers.{count, rules_of, routers}
-use Rattle.trace_history.specs.Sights.{net_at}
-use Rattle.trace_replay.specs.declared.pages.OpenPage.{OpenPage}
-use Rattle.trace_replay.specs.declared.state.PendingRecord.{PendingRecord}
+use Rattle.trace_history.specs.Outcomes.{AreAllRead, HasSameDigests, IsTrueQuery, HasOnlyFaults, fault_marks, fault_marks_by}
+use Rattle.trace_history.specs.Report.{AreItems, text_of, totals_of, no_totals, with_answer, pages_item, graph_items, answer_item, left_items, bad_of}
+use Rattle.trace_history.specs.Routers.{count, rules_of, routers, sum_over}
+use Rattle.trace_history.specs.Sights.{sight_at, net_at}
+use Rattle.trace_history.proofs.Sequential.{account_router}
 use Rattle.trace_replay.specs.declared.state.State.{State}
-use Rattle.trace_replay.specs.Pages.{shown_by}
-use Rattle.trace_replay.specs.Printing.{entered_items, answer_items, first_page_item}
-use Rattle.trace_replay.specs.States.{IsOpenPage, IsPlain, Represents, AreFew, AreMore, Does, PrintsPending, Asks, Ends}
+use Rattle.trace_replay.specs.Agents.{Standing, AllStand, PassesAll, SeesAll, IsSeenBy, IsPast, AllHold, barrier_at, passed_by, reading_at}
+use Rattle.trace_replay.specs.Asking.{AreMore, bad_by, sight_item, item_at, query_items, PrintsQuery}
+use Rattle.trace_replay.specs.Barriers.{PrintsPending}
+use Rattle.trace_replay.specs.Printing.{splits_of, lefts_of}
+use Rattle.trace_replay.specs.Segments.{Splits, filled, Pending, pending_of, pending_items}
+use Rattle.trace_replay.specs.Standing.{Stands, AreFew, IsPrinted, IsNext, pending_at}
+use Rattle.trace_replay.proofs.Closes.{at, here, barrier_paid, left_ok, stands_closed, held_now, first_behind}
+use Rattle.trace_replay.proofs.Filled.{moment_of, clock_filled}
 use Rattle.trace_replay.proofs.Nets.{AgreeBelow, flood_same}
-use Rattle.trace_replay.proofs.Quiet.{plain_query, no_left, none_left_items, quiet_queried, quiet_ended}
-use Rattle.trace_replay.proofs.Sights.{item_is, hit_is, origins_is, missing_false}
+use Rattle.trace_replay.proofs.Passed.{ledger_queried, items_filled}
+use Rattle.trace_replay.proofs.Passing.{passed_router}
+use Rattle.trace_replay.proofs.Quiet.{AreQuiet, fold_append, quiet_append, quiet_cons, quiet_map, quiet_flat_map, quiet_pending, quiet_left, map_same}
+use Rattle.trace_replay.proofs.Sums.{rose_add, rose_less, get_at, some_of}
+use Rattle.trace_replay.proofs.Texts.{longer}
 
--- ---- the net that the code floods, and that of the definition
+bads_named : (xs : List UnreadPage) → map bad_by (map unreadable_of xs) ≡ map bad_of xs
+bads_named [] = refl
+bads_named (x ∷ xs) = ap (λ (ys : List Bad). bad_of x ∷ ys) (bads_named xs)
 
-get_at : {X : Type 0} (xs : List X) (i : ℕ) (d : X) → i < length xs → slice_get xs i ≡ Some (get_or xs i d)
-get_at [] i d h = absurd (omega arith)
-get_at (x ∷ xs) zero d h = refl
-get_at (x ∷ xs) (suc i) d h = get_at xs i d (omega arith)
-
-some_of : {X : Type 0} (xs : List X) (i : ℕ) → i < length xs → X
-some_of [] i h = absurd (omega arith)
-some_of (x ∷ xs) i h = x
-
-shows_is : (t : Trace) (r : ℕ) (a : Account) (p : OpenPage) (sig : Sig) → IsOpenPage t.rules r a p → (shown_by p).hit sig ≡ are_in (page_set t.rules a 0).members (marks t.rules r 0 sig)
-shows_is t r a p sig is =
-    ap (λ (s : PageSet). are_in s.members (positions_by p.family sig)) is.page
-    ∙ ap (λ f. are_in (page_set t.rules a 0).members (positions_by f sig)) is.family
-    ∙ ap (λ ms. are_in (page_set t.rules a 0).members ms) (sym (marks_of-family (shape_of t.rules r) 0 sig))
-
--- `history` ends with the query
-module _ (t : Trace) (before history : History) (s : State) (now : Represents t before s) (r0 : ℕ) (sig0 : Sig) (time : ℕ)
-    (same : (r : ℕ) → account (rules_of t) r history ≡ account (rules_of t) r before) (plain : (r : ℕ) → IsPlain (ledger (rules_of t) r history))
-    (ends : (a b : ℕ) → IsTrue (is_linked t.topology.links a b) → b < count t) where
-  in_pages : (r : ℕ) → r < count t → r < length s.pages.items
-  in_pages r l = subst (λ (n : ℕ). r < n) (sym now.size) l
-
-  abbrev mine : Net
-  mine = net_of shown_by s.pages.items t.topology
-
-  abbrev theirs : Net
-  theirs = net_at (rules_of t) t.topology history (plain_query r0 sig0 time)
-
-  read_at : {X : Type 0} (f : OpenPage → X) (z : X) (r : ℕ) (d : OpenPage) → r < length s.pages.items → unwrap_or (option_map f (slice_get s.pages.items r)) z ≡ f (get_or s.pages.items r d)
-  read_at f z r d l = ap (λ (o : Option OpenPage). unwrap_or (option_map f o) z) (get_at s.pages.items r d l)
-
-  pub agree : AgreeBelow (count t) mine theirs
-  agree = record {
-    hit = λ n h.
-        let r = n.router.number in
-        let l = in_pages r h in
-        let d = some_of s.pages.items r l in
-        read_at (λ (p : OpenPage). (shown_by p).hit n.sig) false r d l
-        ∙ shows_is t r (account (rules_of t) r before) (get_or s.pages.items r d) n.sig (now.pages r d l)
-        ∙ ap (λ (a : Account). are_in (page_set t.rules a 0).members (marks t.rules r 0 n.sig)) (sym (same r))
-        ∙ sym (hit_is t history r0 sig0 time r (plain r) n.sig);
-    origins = λ n h x.
-        let r = n.router.number in
-        let l = in_pages r h in
-        let e = read_at (λ (p : OpenPage). (shown_by p).origins n.sig) [] r (some_of s.pages.items r l) l ∙ sym (origins_is t history r0 sig0 time r (plain r) n.sig) in
-        let P : List Sig → Type 0 = λ ss. Contains ss x in
-        ((λ i. subst P e i), (λ i. subst P (sym e) i));
-    linked = λ r q. refl;
-    missing = λ r h.
-        let l = in_pages r h in
-        read_at (λ (p : OpenPage). (shown_by p).missing) false r (some_of s.pages.items r l) l ∙ sym (missing_false t history r0 sig0 time r (plain r));
-    ends = ends;
-  }
-
--- ---- what is added up
-
-totals_kept : {X : Type 0} (f : X → Item) → ((z : Totals) (x : X) → with_answer z (f x) ≡ z) → (xs : List X) (z : Totals) → fold with_answer z (map f xs) ≡ z
-totals_kept f keeps [] z = refl
-totals_kept f keeps (x ∷ xs) z = ap (λ y. fold with_answer y (map f xs)) (keeps z x) ∙ totals_kept f keeps xs z
-
-fold_append : (xs ys : List Item) (z : Totals) → fold with_answer z (xs ++ ys) ≡ fold with_answer (fold with_answer z xs) ys
-fold_append [] ys z = refl
-fold_append (x ∷ xs) ys z = fold_append xs ys (with_answer z x)
-
-pub totals_entered : (items : List Item) (pending : List PendingRecord) → totals_of (items ++ entered_items pending) ≡ totals_of items
-totals_entered items pending =
-    fold_append items (entered_items pending) no_totals
-    ∙ totals_kept (λ (entered : PendingRecord). item.Entered entered.line entered.page) (λ z x. refl) pending (totals_of items)
-
+-- a graph adds the numbers of its answer
 graph_totals : (line : ℕ) (graph : Graph) (z : Totals) → fold with_answer z (graph_items line graph) ≡ with_answer z (answer_item line graph)
 graph_totals line graph z =
     let nodes = map (item.NodeLine line) graph.nodes in
@@ -115,26 +66,7 @@ graph_totals line graph z =
     let unknown = map (item.UnknownLine line) graph.unknown in
     fold_append (nodes ++ edges ++ unknown) (answer_item line graph ∷ []) z
     ∙ ap (λ y. with_answer y (answer_item line graph))
-    (fold_append (nodes ++ edges) unknown z
-    ∙ totals_kept (item.UnknownLine line) (λ y x. refl) graph.unknown (fold with_answer z (nodes ++ edges))
-    ∙ fold_append nodes edges z
-    ∙ totals_kept (item.EdgeLine line) (λ y x. refl) graph.edges (fold with_answer z nodes)
-    ∙ totals_kept (item.NodeLine line) (λ y x. refl) graph.nodes z)
-
-answer_totals : (line routers : ℕ) (graph : Graph) (items : List Item) → totals_of (items ++ answer_items line routers graph) ≡ with_answer (totals_of items) (answer_item line graph)
-answer_totals line routers graph items =
-    let pages = map (first_page_item line) (below routers) in
-    fold_append items (answer_items line routers graph) no_totals
-    ∙ fold_append (item.Query line ∷ pages) (graph_items line graph) (totals_of items)
-    ∙ ap (λ y. fold with_answer y (graph_items line graph)) (totals_kept (first_page_item line) (λ y x. refl) (below routers) (totals_of items))
-    ∙ graph_totals line graph (totals_of items)
-
--- ---- what stands after a line
-
-few_longer : (totals : Totals) (n m : ℕ) → n ≤ m → AreFew totals n → AreFew totals m
-few_longer totals n m l few =
-    let a = few.nodes in let b = few.edges in let c = few.unknown in let d = few.clear in
-    record { nodes = omega arith; edges = omega arith; unknown = omega arith; clear = omega arith }
+    ((quiet_append (nodes ++ edges) unknown (quiet_append nodes edges (quiet_map (item.NodeLine line) (λ y x. refl) graph.nodes) (quiet_map (item.EdgeLine line) (λ y x. refl) graph.edges)) (quiet_map (item.UnknownLine line) (λ y x. refl) graph.unknown)).each z)
 
 few_more : (before after : Totals) (n m : ℕ) → n + 1 ≤ m → AreFew before n → AreMore before after → AreFew after m
 few_more before after n m l few more =
@@ -142,96 +74,227 @@ few_more before after n m l few more =
     let e = more.nodes in let f = more.edges in let g = more.unknown in let h = more.clear in
     record { nodes = omega arith; edges = omega arith; unknown = omega arith; clear = omega arith }
 
--- the pending records are printed
-pub represents_printed : (t : Trace) (history : History) (before after : State) → PrintsPending t before after → Represents t history before → Represents t history after
-represents_printed t history before after prints s =
-    let entered = entered_items before.pending.items in
-    let P : List OpenPage → Type 0 = λ xs. (r : ℕ) (d : OpenPage) → r < length xs → IsOpenPage t.rules r (account (rules_of t) r history) (get_or xs r d) in
-    let A : List Item → Type 0 = λ items. AreItemsOf t history items in
-    let F : Totals → Type 0 = λ totals. AreFew totals (length after.report.items) in
-    let n : length after.report.items ≡ length before.report.items + length (text_of t entered) = ap length prints.report ∙ length-append before.report.items (text_of t entered) in
-    record {
-      size = ap length prints.pages ∙ s.size;
-      pages = subst P (sym prints.pages) s.pages;
-      quiet = s.quiet;
-      items = s.items ++ entered;
-      answered = subst A (sym (ap (λ (l : List PendingRecord). (s.items ++ entered) ++ entered_items l) prints.pending ∙ append-nil (s.items ++ entered))) s.answered;
-      report = prints.report ∙ ap (λ l. l ++ text_of t entered) s.report ∙ sym (flat_map-append _ s.items entered);
-      totals = prints.totals ∙ s.totals ∙ sym (totals_entered s.items before.pending.items);
-      few = subst F (sym prints.totals) (few_longer before.totals (length before.report.items) (length after.report.items) (omega (arith, n)) s.few);
+module _ {A S : Type 0} (stands : Standing A) (shown : S → Shown) (told : S → Told) (t : Trace) (start : ShelfView) (history seg : History) (agents after : List A) (s : State) (was mid now : ShelfView)
+    (old : Stands stands t start history seg agents s was) (barriers : List Barrier) (all : PassesAll stands s.clock false agents after barriers was mid)
+    (time : ℕ) (sights : List S) (sees : SeesAll stands shown told time after sights mid now) where
+  abbrev f : Splits
+  f = splits_of barriers
+
+  abbrev F : History
+  F = filled f seg history
+
+  abbrev before_of : ℕ → Ledger
+  before_of r = ledger (rules_of t) r F
+
+  abbrev behind : ℕ → Ledger
+  behind r = passed_by (rules_of t) s.clock false barriers before_of r
+
+  -- the pages of the query's window
+  abbrev pages : ℕ → List ℕ
+  pages r = window (rules_of t r) (behind r).account time
+
+  count_after : length after ≡ count t
+  count_after = all.same ∙ old.count_is
+
+  in_after : (r : ℕ) → r < count t → r < length after
+  in_after r l = subst (λ (n : ℕ). r < n) (sym count_after) l
+
+  in_sights : (r : ℕ) → r < count t → r < length sights
+  in_sights r l = subst (λ (n : ℕ). r < n) (sym (sees.count ∙ count_after)) l
+
+  stand_after : AllStand stands (rules_of t) behind (λ r. nothing_unfinished) after
+  stand_after = record {
+    each = λ r d l. (at stands t start history seg agents after s was mid old s.clock false barriers all r d (subst (λ (n : ℕ). r < n) count_after l)).stands_now;
+    numbered = λ r. passed_router (rules_of t r) (before_of r) s.clock false (barrier_at barriers r) ∙ account_router (rules_of t) r F;
+  }
+
+  abbrev sight_of : (r : ℕ) → r < count t → S
+  sight_of r l = get_or sights r (some_of sights r (in_sights r l))
+
+  read_of : {X : Type 0} (g : S → X) (z : X) (r : ℕ) (l : r < count t) → unwrap_or (option_map g (slice_get sights r)) z ≡ g (sight_of r l)
+  read_of g z r l = ap (λ (o : Option S). unwrap_or (option_map g o) z) (get_at sights r (some_of sights r (in_sights r l)) (in_sights r l))
+
+  abbrev reads : ℕ → Reading
+  reads r = reading_at told sights r
+
+  reads_is : (r : ℕ) (l : r < count t) → reads r ≡ (told (sight_of r l)).reading
+  reads_is r l = read_of (λ (x : S). (told x).reading) no_reading r l
+
+  seen : (r : ℕ) (l : r < count t) → IsSeenBy shown told (rules_of t r) (behind r) time (sight_of r l)
+  seen r l = sees.seen (rules_of t) behind (λ q. nothing_unfinished) stand_after r (some_of sights r (in_sights r l)) (in_after r l)
+
+  module _ (line : Line) (router : RouterId) (packet : ℕ) (sig : Sig) (is : line.what ≡ what.Query router packet time) (known : slice_get t.sigs packet ≡ Some sig) (exists : router.number < count t)
+      (ends : (a b : ℕ) → IsTrue (is_linked t.topology.links a b) → b < count t) (graph : Graph)
+      (flood : IsFlood (net_of shown sights t.topology) (record { router = router; sig = sig }) graph) (mid_s new : State)
+      (pends : PrintsPending t barriers s mid_s)
+      (prints : PrintsQuery t (query_items told (count t) barriers sights line.number graph) graph mid_s new) where
+    abbrev query : QueryRun
+    query = record { router = router.number; sig = sig; time = time; reads = reads }
+
+    abbrev event : Event
+    event = queried query (lefts_of barriers)
+
+    abbrev G : History
+    G = moment_of line.number event ∷ F
+
+    clock_now : clock F ≡ s.clock
+    clock_now = clock_filled f seg history old.ordered.inner ∙ sym old.clock_is
+
+    link : (r : ℕ) → r < count t → ledger (rules_of t) r G ≡ behind r
+    link r l =
+        ledger_queried (count t) (rules_of t) r f seg history old.ordered.inner old.ordered.once old.ordered.barred (barrier_at barriers r).archived refl
+        (here stands t start history seg agents after s was mid old s.clock false barriers all r l).told.archived line.number s.clock query (lefts_of barriers) clock_now
+
+    read_ok : AreAllRead (count t) (rules_of t) G query
+    read_ok r l =
+        let P : Ledger → Type 0 = λ x. IsRead (rules_of t r) x (window (rules_of t r) x.account time) (reads r) in
+        let Q : Reading → Type 0 = λ x. IsRead (rules_of t r) (behind r) (pages r) x in
+        subst P (sym (link r l)) (subst Q (sym (reads_is r l)) (seen r l).read)
+
+    digest_ok : HasSameDigests (count t) (rules_of t) G query
+    digest_ok r l =
+        let P : Ledger → Type 0 = λ x. HaveDigests (rules_of t r) x.account (reads r) in
+        let Q : Reading → Type 0 = λ x. HaveDigests (rules_of t r) (behind r).account x in
+        subst P (sym (link r l)) (subst Q (sym (reads_is r l)) (seen r l).digests)
+
+    -- the shelf still holds the records when the query reads them
+    held_mid : start.tells ≡ true → AllHold (length after) (rules_of t) mid.contents behind
+    held_mid tells q m = held_now stands t start history seg agents after s was mid old s.clock false barriers all (old.shelf.still ∙ tells) tells q (subst (λ (k : ℕ). q < k) count_after m)
+
+    true_ok : start.tells ≡ true → IsTrueQuery (count t) (rules_of t) G query
+    true_ok tells r l =
+        let P : Ledger → Type 0 = λ x. AreTrue (rules_of t r) x.account (reads r) in
+        let Q : Reading → Type 0 = λ x. AreTrue (rules_of t r) (behind r).account x in
+        subst P (sym (link r l)) (subst Q (sym (reads_is r l))
+        (sees.all_true (all.still ∙ old.shelf.still ∙ tells) (rules_of t) behind (λ q. nothing_unfinished) stand_after (held_mid tells) r (some_of sights r (in_sights r l)) (in_after r l)))
+
+    faults_ok : start.tells ≡ true → HasOnlyFaults (count t) G query
+    faults_ok tells r l =
+        let Q : Reading → Type 0 = λ x. AllFailed x in
+        subst Q (sym (reads_is r l))
+        (sees.only_faults (all.still ∙ old.shelf.still ∙ tells) (rules_of t) behind (λ q. nothing_unfinished) stand_after (held_mid tells) r (some_of sights r (in_sights r l)) (in_after r l))
+
+    sight_is : (r : ℕ) (l : r < count t) → sight_at (rules_of t) G query r ≡ sight_by (rules_of t r) (behind r) (pages r) (told (sight_of r l)).reading
+    sight_is r l =
+        ap (λ (x : Ledger). sight_by (rules_of t r) x (window (rules_of t r) x.account time) (reads r)) (link r l)
+        ∙ ap (λ (x : Reading). sight_by (rules_of t r) (behind r) (pages r) x) (reads_is r l)
+
+    agree : AgreeBelow (count t) (net_of shown sights t.topology) (net_at (rules_of t) t.topology G query)
+    agree = record {
+      hit = λ n h.
+          let r = n.router.number in
+          read_of (λ (x : S). (shown x).hit n.sig) false r h ∙ (seen r h).hit n.sig ∙ sym (ap (λ (x : Sight). hit (rules_of t r) x n.sig) (sight_is r h));
+      origins = λ n h x.
+          let r = n.router.number in
+          let e = read_of (λ (y : S). (shown y).origins n.sig) [] r h in
+          let o = ap (λ (y : Sight). origins y n.sig) (sight_is r h) in
+          let P : List Sig → Type 0 = λ ss. Contains ss x in
+          let both = (seen r h).origins n.sig x in
+          ((λ i. subst P (sym o) (both.0 (subst P e i))), (λ i. subst P (sym e) (both.1 (subst P o i))));
+      linked = λ r q. refl;
+      missing = λ r h. read_of (λ (x : S). (shown x).missing) false r h ∙ (seen r h).missing ∙ sym (ap (λ (x : Sight). x.missing) (sight_is r h));
+      ends = ends;
     }
 
-map_same : {X Y : Type 0} (f g : X → Y) → ((x : X) → f x ≡ g x) → (xs : List X) → map f xs ≡ map g xs
-map_same f g e [] = refl
-map_same f g e (x ∷ xs) = ap (λ y. y ∷ map f xs) (e x) ∙ ap (λ ys. g x ∷ ys) (map_same f g e xs)
+    -- the line of a router's pages
+    abbrev pages_by : (r : ℕ) → Ledger → Reading → Item
+    pages_by r l x =
+        let ps = window (rules_of t r) l.account time in
+        item.Pages line.number (record { number = r }) (range_of (expired_by (rules_of t r) l ps)) (map bad_of x.unread) (map page_no (used_by (rules_of t r) l ps x))
 
-pub does_query : (t : Trace) (line : Line) (router : RouterId) (packet : ℕ) (sig : Sig) (time : ℕ) (graph : Graph) (old mid new : State)
-    → line.what ≡ Query router packet time → slice_get t.sigs packet ≡ Some sig → router.number < count t
-    → ((a b : ℕ) → IsTrue (is_linked t.topology.links a b) → b < count t)
-    → IsFlood (net_of shown_by old.pages.items t.topology) (record { router = router; sig = sig }) graph
-    → PrintsPending t old mid → Asks t line.number graph mid new → Does t line old new
-does_query t line router packet sig time graph old mid new is known exists ends flood prints asks history now =
-    let query = plain_query router.number sig time in
-    let W : What → Type 0 = λ w. IsEventOf t.sigs w (queried query no_left) in
-    let s = represents_printed t history old mid prints now in
-    let quiet = quiet_queried t history line.number now.quiet router.number sig time in
-    let after : History = record { line = line.number; event = queried query no_left } ∷ history in
-    let answer = answer_items line.number (count t) graph in
-    let P : List OpenPage → Type 0 = λ xs. (r : ℕ) (d : OpenPage) → r < length xs → IsOpenPage t.rules r (account (rules_of t) r history) (get_or xs r d) in
-    let A : List Item → Type 0 = λ items. AreItemsOf t history items in
-    let none : new.pending.items ≡ [] = asks.pending ∙ prints.pending in
-    let real = flood_same (count t) _ _ (record { router = router; sig = sig }) graph exists (agree t history after old now router.number sig time (λ r. refl) quiet.plain ends) flood in
-    let printed = map_same (pages_item t after line.number query) (first_page_item line.number) (λ r. item_is t after router.number sig time r (quiet.plain r) line.number) (below (count t)) in (
-      queried query no_left,
-      subst W (sym is) (refl, known, refl),
-      record {
-        size = ap length asks.pages ∙ s.size;
-        pages = subst P (sym asks.pages) s.pages;
-        quiet = quiet;
-        items = s.items ++ answer;
-        answered = (
-          s.items,
-          answer,
-          subst A (ap (λ (l : List PendingRecord). s.items ++ entered_items l) prints.pending ∙ append-nil s.items) s.answered,
-          (
-            graph,
-            real,
-            ap (λ (l : List Item). item.Query line.number ∷ l ++ graph_items line.number graph) (sym printed)
-                ∙ ap (λ (l : List Item). item.Query line.number ∷ l ++ map (pages_item t after line.number query) (routers t) ++ graph_items line.number graph) (sym (none_left_items line.number (routers t))),
-          ),
-          ap (λ (l : List PendingRecord). (s.items ++ answer) ++ entered_items l) none ∙ append-nil (s.items ++ answer),
-        );
-        report = asks.report ∙ ap (λ l. l ++ text_of t answer) s.report ∙ sym (flat_map-append _ s.items answer);
-        totals = asks.totals ∙ ap (λ (z : Totals). with_answer z (answer_item line.number graph)) s.totals ∙ sym (answer_totals line.number (count t) graph s.items);
-        few = few_more mid.totals new.totals (length mid.report.items) (length new.report.items) asks.longer s.few asks.more;
-      },
-    )
+    abbrev told_of : Option PageRange → List Unreadable → List PageNo → Reading → Told
+    told_of expired unreadable used reading = record { expired = expired; unreadable = unreadable; used = used; reading = reading }
 
-pub does_end : (t : Trace) (line : Line) (old mid new : State) → line.what ≡ End → PrintsPending t old mid → Ends t line.number mid new → Does t line old new
-does_end t line old mid new is prints ends history now =
-    let W : What → Type 0 = λ w. IsEventOf t.sigs w (ended no_left) in
-    let s = represents_printed t history old mid prints now in
-    let last = item.End line.number ∷ [] in
-    let P : List OpenPage → Type 0 = λ xs. (r : ℕ) (d : OpenPage) → r < length xs → IsOpenPage t.rules r (account (rules_of t) r history) (get_or xs r d) in
-    let A : List Item → Type 0 = λ items. AreItemsOf t history items in
-    let F : Totals → Type 0 = λ totals. AreFew totals (length new.report.items) in
-    let n : length new.report.items ≡ length mid.report.items + length (text_of t last) = ap length ends.report ∙ length-append mid.report.items (text_of t last) in (
-      ended no_left,
-      subst W (sym is) tt,
-      record {
-        size = ap length ends.pages ∙ s.size;
-        pages = subst P (sym ends.pages) s.pages;
-        quiet = quiet_ended t history line.number now.quiet;
-        items = s.items ++ last;
-        answered = (
-          s.items,
-          last,
-          subst A (ap (λ (l : List PendingRecord). s.items ++ entered_items l) prints.pending ∙ append-nil s.items) s.answered,
-          ap (λ (l : List Item). item.End line.number ∷ l) (sym (none_left_items line.number (routers t))),
-          ap (λ (l : List PendingRecord). (s.items ++ last) ++ entered_items l) (ends.pending ∙ prints.pending) ∙ append-nil (s.items ++ last),
-        );
-        report = ends.report ∙ ap (λ l. l ++ text_of t last) s.report ∙ sym (flat_map-append _ s.items last);
-        totals = ends.totals ∙ s.totals ∙ sym (fold_append s.items last no_totals);
-        few = subst F (sym ends.totals) (few_longer mid.totals (length mid.report.items) (length new.report.items) (omega (arith, n)) s.few);
-      },
-    )
+    pages_is : (r : ℕ) → r < count t → item_at told sights line.number r ≡ pages_item t G line.number query r
+    pages_is r l =
+        let x = told (sight_of r l) in
+        let e = seen r l in
+        let expired = range_of (expired_by (rules_of t r) (behind r) (pages r)) in
+        let unreadable = map unreadable_of x.reading.unread in
+        read_of (λ (y : S). sight_item line.number r (told y)) item.Head r l
+        ∙ ap (λ (o : Option PageRange). sight_item line.number r (told_of o x.unreadable x.used x.reading)) e.expired_is
+        ∙ ap (λ (o : List Unreadable). sight_item line.number r (told_of expired o x.used x.reading)) e.unreadable_is
+        ∙ ap (λ (o : List PageNo). sight_item line.number r (told_of expired unreadable o x.reading)) e.used_is
+        ∙ ap (λ (o : List Bad). item.Pages line.number (record { number = r }) expired o (map page_no (used_by (rules_of t r) (behind r) (pages r) x.reading))) (bads_named x.reading.unread)
+        ∙ ap (λ (o : Reading). pages_by r (behind r) o) (sym (reads_is r l))
+        ∙ ap (λ (o : Ledger). pages_by r o (reads r)) (sym (link r l))
+
+    abbrev items : List Item
+    items = query_items told (count t) barriers sights line.number graph
+
+    abbrev front : List Item
+    front = item.Query line.number ∷ flat_map (left_items line.number (lefts_of barriers)) (routers t) ++ map (pages_item t G line.number query) (routers t)
+
+    items_is : items ≡ front ++ graph_items line.number graph
+    items_is = ap (λ (xs : List Item). item.Query line.number ∷ flat_map (left_items line.number (lefts_of barriers)) (routers t) ++ xs ++ graph_items line.number graph)
+        (map_same (item_at told sights line.number) (pages_item t G line.number query) 0 (count t) (count t) (omega arith) pages_is)
+
+    are : AreItems t F G line.number event items
+    are = (graph, flood_same (count t) _ _ (record { router = router; sig = sig }) graph exists agree flood, items_is)
+
+    front_quiet : AreQuiet front
+    front_quiet = quiet_cons _ _ (λ z. refl) (quiet_append _ _ (quiet_flat_map (left_items line.number (lefts_of barriers)) (quiet_left line.number (lefts_of barriers)) (routers t)) (quiet_map (pages_item t G line.number query) (λ z r. refl) (routers t)))
+
+    items_totals : (z : Totals) → fold with_answer z items ≡ with_answer z (answer_item line.number graph)
+    items_totals z =
+        ap (λ (xs : List Item). fold with_answer z xs) items_is ∙ fold_append front (graph_items line.number graph) z
+        ∙ ap (λ y. fold with_answer y (graph_items line.number graph)) (front_quiet.each z) ∙ graph_totals line.number graph z
+
+    printed : IsPrinted t G new.report.items new.totals
+    printed =
+        let p = old.printed in
+        let text = text_of t in
+        let waits = pending_items f (pending_of seg) in
+        let before : mid_s.report.items ≡ text (p.items ++ waits) =
+        pends.report ∙ ap (λ (xs : List Pending). s.report.items ++ text (pending_items f xs)) old.pending_is ∙ ap (λ l. l ++ text waits) p.report_is ∙ sym (flat_map-append _ p.items waits) in
+        let e1 = ap length pends.report ∙ length-append s.report.items (text (pending_items f (pending_at t s))) in
+        let up : length mid_s.report.items + 1 ≤ length new.report.items = longer t.topology.names line.number _ mid_s.report.items new.report.items prints.report in
+        let M : Totals → Type 0 = λ z. AreMore z new.totals in
+        record {
+          items = (p.items ++ waits) ++ items;
+          answered = (p.items ++ waits, items, items_filled t f seg history p.items old.ordered.inner p.answered, are, refl);
+          report_is = prints.report ∙ ap (λ l. l ++ text items) before ∙ sym (flat_map-append _ (p.items ++ waits) items);
+          totals_are =
+              prints.totals ∙ ap (λ (z : Totals). with_answer z (answer_item line.number graph)) (pends.totals ∙ p.totals_are)
+              ∙ sym (fold_append (p.items ++ waits) items no_totals ∙ ap (λ (z : Totals). fold with_answer z items) (fold_append p.items waits no_totals ∙ (quiet_pending f (pending_of seg)).each (totals_of p.items)) ∙ items_totals (totals_of p.items));
+          few = few_more s.totals new.totals (length s.report.items) (length new.report.items) (omega (arith, e1, up)) p.few (subst M pends.totals prints.more);
+        }
+
+    query_paid : RoseBy (fault_marks (count t) F + fault_marks_by (count t) event) start.faults now.faults
+    query_paid =
+        let n = count t in
+        let lefts = sum_over n (λ r. length (lefts_of barriers r)) in
+        let lost = sum_over n (λ r. failures (reads r)) in
+        let P : ℕ → Type 0 = λ k. RoseBy (sum_over k (λ r. failures (reading_at told sights r))) mid.faults now.faults in
+        rose_less ((fault_marks n F + lefts) + lost) (fault_marks n F + (lefts + lost)) start.faults now.faults
+        (rose_add (fault_marks n F + lefts) lost start.faults mid.faults now.faults (barrier_paid stands t start history seg agents after s was mid old s.clock false barriers all) (subst P count_after sees.paid))
+        (omega arith)
+
+    pub query_closes : (g : Splits) × (e : Event) × IsEventOf t.sigs line.what e × Stands stands t start (moment_of line.number e ∷ filled g seg history) [] after new now
+    query_closes =
+        let W : What → Type 0 = λ w. IsEventOf t.sigs w event in
+        let T : ℕ → Type 0 = λ c. c < 2 ^ 48 in (
+          f,
+          event,
+          subst W (sym is) (refl, known, refl),
+          stands_closed stands t start history seg agents after s was mid old s.clock false barriers all line.number event refl link new now sees.later sees.still sees.unchanged
+              (prints.clock ∙ pends.clock ∙ sym clock_now) (subst T (sym (prints.clock ∙ pends.clock)) old.clock_fits) (first_behind stands t start history seg agents after s was mid old s.clock false barriers all (moment_of line.number event) mid_s new pends prints.first) (prints.answers ∙ pends.answers) tt tt tt
+              (read_ok, left_ok stands t start history seg agents after s was mid old s.clock false barriers all line.number event refl link) digest_ok printed query_paid true_ok faults_ok,
+        )
+
+-- ---- what the calls require
+
+pub agents_past : {A : Type 0} (stands : Standing A) (t : Trace) (line : Line) (agents after : List A) (s : State) (was mid : ShelfView) (ready : IsNext stands t line agents s was) (barriers : List Barrier) → PassesAll stands s.clock false agents after barriers was mid
+    → (time : ℕ) → time ≤ s.clock → All (IsPast stands time) after
+agents_past stands t line agents after s was mid ready barriers all time up k d l =
+    let old = ready.3 in
+    let f = splits_of barriers in
+    let before_of : ℕ → Ledger = λ r. ledger (rules_of t) r (filled f ready.2 ready.1) in
+    let l0 : k < count t = subst (λ (n : ℕ). k < n) (all.same ∙ old.count_is) l in
+    (rules_of t k, passed_by (rules_of t) s.clock false barriers before_of k, nothing_unfinished, (at stands t ready.0 ready.1 ready.2 agents after s was mid old s.clock false barriers all k d l0).stands_now, up)
+
+pub router_exists : {A : Type 0} (stands : Standing A) (t : Trace) (line : Line) (agents : List A) (s : State) (now : ShelfView) (router : RouterId) (packet time : ℕ) → line.what ≡ what.Query router packet time → IsNext stands t line agents s now → (router.number < count t) × (time ≤ s.clock)
+router_exists stands t line agents s now router packet time is ready =
+    let P : What → Type 0 = λ w. IsWithin (count t) (length t.sigs) w in
+    let Q : What → Type 0 = λ w. FitsClock s.clock w in
+    ((subst P is ready.4.within).0, subst Q is ready.4.timed)

@@ -1,124 +1,75 @@
--- Histories of records and queries, without a shelf.
-use Rattle.std.proofs.Common.{ℕ, zero, suc, ◌≡◌, ◌∷◌, [], Bool, true, false, cond, ◌==◌, List, length, sym, ap, subst, refl, arith}
-use Rattle.std.specs.List.{Contains, flat_map}
-use Rattle.std.specs.List.Sorted.{IsStrictlySortedBy}
-use Rattle.std.specs.declared.cmp.Ordering.{Ordering}
-use Rattle.spie_base.specs.declared.Rules.{Rules}
-use Rattle.spie_base.specs.declared.Sig.{Sig}
-use Rattle.spie_base.proofs.Membership.{has_none}
-use Rattle.trace_format.specs.declared.Trace.{Trace}
-use Rattle.router_account.specs.Barriers.{AreLeft}
-use Rattle.router_account.specs.Ledger.{Ledger}
-use Rattle.router_account.specs.Sights.{IsRead, no_reading}
-use Rattle.trace_history.specs.History.{recorded, queried, ended, same, Hop, History, QueryRun, account, with_hop}
-use Rattle.trace_history.specs.Ledgers.{ledger}
-use Rattle.trace_history.specs.Report.{left_items}
-use Rattle.trace_history.specs.Routers.{count, rules_of, sum_over}
-use Rattle.trace_replay.specs.States.{IsPlain, IsQuiet}
+-- Items that add nothing to the totals.
+use Rattle.std.proofs.Common.{ℕ, zero, suc, ◌≡◌, ◌≤◌, ◌<◌, ◌+◌, ◌∷◌, [], ◌++◌, ◌∙◌, List, map, ap, refl, arith}
+use Rattle.std.specs.Prelude.{fold}
+use Rattle.std.specs.List.{flat_map, range_with_len}
+use Rattle.std.specs.declared.option.Option.{Option}
+use Rattle.std.specs.Prelude.{Some, None}
+use Rattle.report_text.specs.declared.Item.{Item}
+use Rattle.router_account.specs.declared.Watch.{Watch}
+use Rattle.router_account.specs.declared.Watch.TheVariants.{Seen, NotSeen, Unknown}
+use Rattle.router_account.specs.Barriers.{Closing}
+use Rattle.trace_history.specs.declared.Totals.{Totals}
+use Rattle.trace_history.specs.Report.{with_answer, totals_of, no_totals, watch_item, closing_items, left_items}
+use Rattle.trace_replay.specs.declared.state.Answer.{Answer}
+use Rattle.trace_replay.specs.declared.state.Answer.TheVariants.{Entered, Opened, Archived, Watched}
+use Rattle.trace_replay.specs.Segments.{Splits, Pending, item_by, pending_items}
 
-abbrev pub hop_of : ℕ → Sig → Hop
-hop_of router sig = record { router = router; sig = sig; origin = same }
+pub record AreQuiet (items : List Item) : Type 0 where
+  pub each : (z : Totals) → fold with_answer z items ≡ z
 
--- a query that no shelf takes part in
-abbrev pub plain_query : ℕ → Sig → (time : ℕ) → QueryRun
-plain_query router sig time = record { router = router; sig = sig; time = time; reads = λ r. no_reading }
+pub fold_append : (xs ys : List Item) (z : Totals) → fold with_answer z (xs ++ ys) ≡ fold with_answer (fold with_answer z xs) ys
+fold_append [] ys z = refl
+fold_append (x ∷ xs) ys z = fold_append xs ys (with_answer z x)
 
-abbrev pub no_left : ℕ → List ℕ
-no_left router = []
+pub quiet_none : AreQuiet []
+quiet_none = record { each = λ z. refl }
 
--- ---- nothing is left, and nothing is read
+pub quiet_append : (xs ys : List Item) → AreQuiet xs → AreQuiet ys → AreQuiet (xs ++ ys)
+quiet_append xs ys a b = record { each = λ z. fold_append xs ys z ∙ ap (λ w. fold with_answer w ys) (a.each z) ∙ b.each z }
 
-none_rise : {X : Type 0} (cmp : X → X → Ordering) → IsStrictlySortedBy cmp []
-unfolding IsStrictlySortedBy
-none_rise cmp = tt
+pub quiet_cons : (x : Item) (xs : List Item) → ((z : Totals) → with_answer z x ≡ z) → AreQuiet xs → AreQuiet (x ∷ xs)
+quiet_cons x xs a b = record { each = λ z. ap (λ w. fold with_answer w xs) (a z) ∙ b.each z }
 
-pub none_left : (rules : Rules) (before after : Ledger) → AreLeft rules before after []
-none_left rules before after = record {
-  rising = none_rise _;
-  expired = λ page h. absurd (has_none page h);
-  first = λ page h. absurd (has_none page h);
-  covered = λ page h. absurd (has_none page h);
-}
+pub quiet_map : {X : Type 0} (f : X → Item) → ((z : Totals) (x : X) → with_answer z (f x) ≡ z) → (xs : List X) → AreQuiet (map f xs)
+quiet_map f a [] = quiet_none
+quiet_map f a (x ∷ xs) = quiet_cons (f x) (map f xs) (λ z. a z x) (quiet_map f a xs)
 
-none_read : (rules : Rules) (l : Ledger) (pages : List ℕ) → l.put_before ≡ [] → IsRead rules l pages no_reading
-none_read rules l pages unput = record {
-  unread_rises = none_rise _;
-  unread = λ x h. absurd (has_none x h);
-  got_rises = none_rise _;
-  got = λ page. (
-    (λ h. absurd (has_none h.0 h.1)),
-    (λ h. let P : List ℕ → Type 0 = λ xs. Contains xs page in absurd (has_none page (subst P unput h.0.put))),
-  );
-}
+pub quiet_flat_map : {X : Type 0} (f : X → List Item) → ((x : X) → AreQuiet (f x)) → (xs : List X) → AreQuiet (flat_map f xs)
+quiet_flat_map f a [] = quiet_none
+quiet_flat_map f a (x ∷ xs) = quiet_append (f x) (flat_map f xs) (a x) (quiet_flat_map f a xs)
 
-pub none_left_items : (line : ℕ) (routers : List ℕ) → flat_map (left_items line no_left) routers ≡ []
-none_left_items line [] = refl
-none_left_items line (r ∷ rs) = none_left_items line rs
+watch_quiet : (z : Totals) (line : ℕ) (w : Watch) → with_answer z (watch_item line w) ≡ z
+watch_quiet z line Seen = refl
+watch_quiet z line NotSeen = refl
+watch_quiet z line Unknown = refl
 
-sum_none : (routers : ℕ) → sum_over routers (λ r. 0) ≡ 0
-sum_none zero = refl
-sum_none (suc n) = let e = sum_none n in omega (arith, e)
+item_quiet : (f : Splits) (z : Totals) (line : ℕ) (a : Answer) → with_answer z (item_by f line a) ≡ z
+item_quiet f z line (Entered page) = refl
+item_quiet f z line (Opened page) = refl
+item_quiet f z line (Archived router) = refl
+item_quiet f z line (Watched w) = watch_quiet z line w
 
--- ---- one event more
+pub quiet_pending : (f : Splits) (xs : List Pending) → AreQuiet (pending_items f xs)
+quiet_pending f xs = quiet_map (λ (x : Pending). item_by f x.line x.answer) (λ z x. item_quiet f z x.line x.answer) xs
 
--- a ledger with one more entry, or as it was
-plain_with : (l : Ledger) (router : ℕ) (sig : Sig) (b : Bool) → IsPlain l → IsPlain (record l { account = cond b (with_hop l.account (hop_of router sig) 0) l.account })
-plain_with l router sig false p = p
-plain_with l router sig true p = record { closings = p.closings; closings_then = p.closings_then; rows = p.rows; put_before = p.put_before; covered_before = p.covered_before }
+pub quiet_left : (line : ℕ) (left : ℕ → List ℕ) (r : ℕ) → AreQuiet (left_items line left r)
+quiet_left line left r = quiet_map _ (λ z x. refl) (left r)
 
-pub quiet_first : (t : Trace) → IsQuiet t []
-quiet_first t = record {
-  plain = λ r. record { closings = refl; closings_then = refl; rows = refl; put_before = refl; covered_before = refl };
-  unput = λ r. refl;
-  uncovered = λ r. refl;
-  sequential = tt;
-  watched = tt;
-  allowed = tt;
-  same_digests = tt;
-  all_true = tt;
-  only_faults = tt;
-  faultless = refl;
-}
+pub quiet_closing : (line r : ℕ) (o : Option Closing) → AreQuiet (closing_items line r o)
+quiet_closing line r None = quiet_none
+quiet_closing line r (Some x) = quiet_cons _ [] (λ z. refl) quiet_none
 
-module _ (t : Trace) (history : History) (line : ℕ) (q : IsQuiet t history) where
-  pub quiet_recorded : (router : ℕ) (sig : Sig) → IsQuiet t (record { line = line; event = recorded (hop_of router sig) 0 } ∷ history)
-  quiet_recorded router sig = record {
-    plain = λ r. plain_with (ledger (rules_of t) r history) router sig (router == (account (rules_of t) r history).router) (q.plain r);
-    unput = q.unput;
-    uncovered = q.uncovered;
-    sequential = (q.sequential, sym (ap length (q.plain router).closings));
-    watched = (q.watched, tt);
-    allowed = (q.allowed, tt);
-    same_digests = (q.same_digests, tt);
-    all_true = (q.all_true, tt);
-    only_faults = (q.only_faults, tt);
-    faultless = let e = q.faultless in omega (arith, e);
-  }
+pub totals_quiet : (items more : List Item) → AreQuiet more → totals_of (items ++ more) ≡ totals_of items
+totals_quiet items more a = fold_append items more no_totals ∙ a.each (totals_of items)
 
-  pub quiet_queried : (router : ℕ) (sig : Sig) (time : ℕ) → IsQuiet t (record { line = line; event = queried (plain_query router sig time) no_left } ∷ history)
-  quiet_queried router sig time = record {
-    plain = λ r. let p = q.plain r in record { closings = p.closings; closings_then = p.closings; rows = p.rows; put_before = q.unput r; covered_before = q.uncovered r };
-    unput = q.unput;
-    uncovered = q.uncovered;
-    sequential = (q.sequential, tt);
-    watched = (q.watched, tt);
-    allowed = (q.allowed, ((λ r l. none_read t.rules _ _ (q.unput r)), (λ r l. none_left t.rules _ _)));
-    same_digests = (q.same_digests, λ r l x h. absurd (has_none x h));
-    all_true = (q.all_true, λ r l x h. absurd (has_none x h));
-    only_faults = (q.only_faults, λ r l x h. absurd (has_none x h));
-    faultless = let e = q.faultless in let s = sum_none (count t) in omega (arith, e, s);
-  }
+-- ---- lists of routers
 
-  pub quiet_ended : IsQuiet t (record { line = line; event = ended no_left } ∷ history)
-  quiet_ended = record {
-    plain = λ r. let p = q.plain r in record { closings = p.closings; closings_then = p.closings; rows = p.rows; put_before = q.unput r; covered_before = q.uncovered r };
-    unput = q.unput;
-    uncovered = q.uncovered;
-    sequential = (q.sequential, tt);
-    watched = (q.watched, tt);
-    allowed = (q.allowed, λ r l. none_left t.rules _ _);
-    same_digests = (q.same_digests, tt);
-    all_true = (q.all_true, tt);
-    only_faults = (q.only_faults, tt);
-    faultless = let e = q.faultless in let s = sum_none (count t) in omega (arith, e, s);
-  }
+pub flat_map_same : {X : Type 0} (f g : ℕ → List X) (first len n : ℕ) → first + len ≤ n → ((r : ℕ) → r < n → f r ≡ g r) → flat_map f (range_with_len first len) ≡ flat_map g (range_with_len first len)
+flat_map_same f g first zero n l e = refl
+flat_map_same f g first (suc len) n l e =
+    ap (λ xs. xs ++ flat_map f (range_with_len (first + 1) len)) (e first (omega arith)) ∙ ap (λ xs. g first ++ xs) (flat_map_same f g (first + 1) len n (omega arith) e)
+
+pub map_same : {X : Type 0} (f g : ℕ → X) (first len n : ℕ) → first + len ≤ n → ((r : ℕ) → r < n → f r ≡ g r) → map f (range_with_len first len) ≡ map g (range_with_len first len)
+map_same f g first zero n l e = refl
+map_same f g first (suc len) n l e =
+    ap (λ x. x ∷ map f (range_with_len (first + 1) len)) (e first (omega arith)) ∙ ap (λ xs. g first ∷ xs) (map_same f g (first + 1) len n (omega arith) e)

@@ -3,14 +3,12 @@ use Rattle.std.specs.Prelude.{ℕ, List, Bool, true, false, not, find, option_ma
 use Rattle.std.specs.declared.option.Option.{Option}
 use Rattle.trace_format.specs.declared.Line.{Line}
 use Rattle.trace_format.specs.declared.What.{What}
-use Rattle.trace_format.specs.declared.What.TheVariants.{Fwd, Query, End}
+use Rattle.trace_format.specs.declared.What.TheVariants.{Archive}
 
 -- whether a line's word can be replayed
 abbrev pub is_built : What → Bool
-is_built (Fwd router packet) = true
-is_built (Query router packet time) = true
-is_built End = true
-is_built _ = false
+is_built (Archive router) = false
+is_built _ = true
 
 -- the number of the first line whose word can't
 abbrev pub first_unbuilt_of : List Line → Option ℕ

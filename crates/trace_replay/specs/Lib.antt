@@ -1,4 +1,8 @@
+pub mod Agents
+pub mod Asking
+pub mod Barriers
 pub mod Built
-pub mod Pages
+pub mod Loop
 pub mod Printing
-pub mod States
+pub mod Segments
+pub mod Standing

@@ -7,7 +7,7 @@ use trace_format::{Trace, What};
 fn is_built(what: &What) -> bool
     ensures { result ≡ is_built what.now }
 {
-    matches!(what, What::Fwd { .. } | What::Query { .. } | What::End)
+    !matches!(what, What::Archive { .. })
 }
 
 /// The number of the first line whose word can't be replayed yet. Costs a look at each line up to it.

@@ -1,14 +1,17 @@
 //! Replays a trace and writes its report.
 //!
-//! Its central contract is that of `replay_alone`: the report and the totals are those of a history of the
-//! trace's lines in which each record is in the page that is open at its line, by the definitions of
-//! `trace_history`. Lines are answered one after another; what they were answered is printed at the next
-//! barrier, a query or the end, since some answers are known only there. Read `replay` first, then `state`,
-//! `pages`, `queries` and `printing`.
+//! Its central contract is that of `replay_alone`: the report, the totals and what the shelf came to are those of a
+//! history of the trace's lines, by the definitions of `trace_history`. Lines are answered one after another, segment
+//! by segment: a segment's answers are printed at its barrier, where pages close, archivals are finished and pages
+//! expire. Read `replay` first, then `state`, `lines` (within a segment), `agents` (all routers at a barrier),
+//! `closing` (barriers), `barriers`, `queries` and `printing`.
 #![tactic(auto)]
 
+mod agents;
+mod barriers;
 mod built;
-mod pages;
+mod closing;
+mod lines;
 mod printing;
 mod queries;
 mod replay;

@@ -6,31 +6,12 @@ ghost use Rattle.reverse_flood.specs.declared.Edge.{Edge};
 ghost use Rattle.report_text.specs.declared.Item.TheVariants.{NodeLine, EdgeLine, UnknownLine};
 ghost use Rattle.report_text.specs.Report.{item_text, IsNamed};
 ghost use Rattle.trace_history.specs.Report.{answer_item, graph_items};
-ghost use Rattle.trace_replay.specs.Printing.{entered_items, IsNodeNamed, IsEdgeNamed, IsGraphNamed};
+ghost use Rattle.trace_replay.specs.Printing.{AddsItems, IsNodeNamed, IsEdgeNamed, IsGraphNamed};
 
-use crate::state::PendingRecord;
 use report_text::{Item, push_item};
 use reverse_flood::{Edge, Graph, Node};
 use spie_base::NoMemory;
 use topology::Topology;
-
-/// Appends the lines of records that are pending.
-pub fn push_pending(
-    out: &mut Vec<u8>,
-    topology: &Topology,
-    pending: &[PendingRecord],
-) -> Result<(), NoMemory>
-    ensures { OnOk result (out.new.items ≡ out.old.items ++ flat_map (item_text topology.now.names) (entered_items pending.now)) }
-{
-    for entered in pending {
-        let item = Item::Entered {
-            line: entered.line,
-            page: entered.page,
-        };
-        push_item(out, topology, &item)?;
-    }
-    Ok(())
-}
 
 fn push_nodes(
     out: &mut Vec<u8>,
@@ -39,7 +20,7 @@ fn push_nodes(
     nodes: &[Node],
 ) -> Result<(), NoMemory>
     requires { All (IsNodeNamed topology.now.names) nodes.now }
-    ensures { OnOk result (out.new.items ≡ out.old.items ++ flat_map (item_text topology.now.names) (map (NodeLine line) nodes.now)) }
+    ensures { OnOk result (AddsItems topology.now.names (map (NodeLine line) nodes.now) out.old.items out.new.items) }
 {
     for node in nodes {
         push_item(out, topology, &Item::NodeLine { line, node: *node })?;
@@ -54,7 +35,8 @@ fn push_unknowns(
     nodes: &[Node],
 ) -> Result<(), NoMemory>
     requires { All (IsNodeNamed topology.now.names) nodes.now }
-    ensures { OnOk result (out.new.items ≡ out.old.items ++ flat_map (item_text topology.now.names) (map (UnknownLine line) nodes.now)) }
+    ensures { OnOk result (AddsItems topology.now.names
+        (map (UnknownLine line) nodes.now) out.old.items out.new.items) }
 {
     for node in nodes {
         push_item(out, topology, &Item::UnknownLine { line, node: *node })?;
@@ -69,7 +51,7 @@ fn push_edges(
     edges: &[Edge],
 ) -> Result<(), NoMemory>
     requires { All (IsEdgeNamed topology.now.names) edges.now }
-    ensures { OnOk result (out.new.items ≡ out.old.items ++ flat_map (item_text topology.now.names) (map (EdgeLine line) edges.now)) }
+    ensures { OnOk result (AddsItems topology.now.names (map (EdgeLine line) edges.now) out.old.items out.new.items) }
 {
     for edge in edges {
         push_item(out, topology, &Item::EdgeLine { line, edge: *edge })?;
@@ -104,7 +86,7 @@ pub fn push_graph(
     graph: &Graph,
 ) -> Result<(), NoMemory>
     requires { IsGraphNamed topology.now.names graph.now }
-    ensures { OnOk result (out.new.items ≡ out.old.items ++ flat_map (item_text topology.now.names) (graph_items line graph.now)) }
+    ensures { OnOk result (AddsItems topology.now.names (graph_items line graph.now) out.old.items out.new.items) }
 {
     push_nodes(out, topology, line, graph.nodes.items())?;
     push_edges(out, topology, line, graph.edges.items())?;

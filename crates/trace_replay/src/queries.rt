@@ -3,66 +3,103 @@ ghost use Rattle.std.specs.Prelude.{◌≡◌, ◌++◌, IfOk, OnOk, length, map
 ghost use Rattle.std.specs.List.{flat_map};
 ghost use Rattle.report_text.specs.Report.{item_text};
 ghost use Rattle.router_account.specs.Account.{below};
-ghost use Rattle.trace_history.specs.Report.{answer_item, with_answer};
-ghost use Rattle.trace_replay.specs.Printing.{first_page_item, IsGraphNamed, answer_items};
-ghost use Rattle.trace_replay.specs.States.{AreMore, IsRoomy};
+ghost use Rattle.trace_history.specs.Report.{answer_item, with_answer, word_of};
+ghost use Rattle.data_agent.specs.Seeing.{told_by};
+ghost use Rattle.trace_replay.specs.Asking.{AreMore, IsRoomy, bad_by, sight_item, item_at, query_items, PrintsQuery};
+ghost use Rattle.trace_replay.specs.Printing.{AddsItems, IsGraphNamed};
 
+use crate::barriers::push_left;
 use crate::printing::push_graph;
-use report_text::{Item, push_item};
+use crate::state::State;
+use data_agent::{Barrier, Sight};
+use report_text::{Bad, CauseWord, Item, push_item};
 use reverse_flood::Graph;
+use router_account::{Cause, Unreadable};
 use spie_base::{List, NoMemory, PageNo, RouterId};
 use std::alloc::Global;
 use topology::Topology;
+use trace_format::Trace;
 use trace_history::Totals;
 
-// The pages of a router that a query uses: the first alone.
-fn first_page(alloc: Global, line: u64, router: u32) -> Result<Item, NoMemory>
-    ensures { IfOk result (λ item. item ≡ first_page_item line router) }
+fn word(cause: Cause) -> CauseWord
+    ensures { result ≡ word_of cause }
+{
+    match cause {
+        Cause::Failed => CauseWord::Failed,
+        Cause::Other { .. } => CauseWord::Other,
+        Cause::Absent => CauseWord::Absent,
+        Cause::Broken => CauseWord::Broken,
+    }
+}
+
+fn bads(alloc: Global, unreadable: &[Unreadable]) -> Result<List<Bad>, NoMemory>
+    ensures { IfOk result (λ bads. bads ≡ map bad_by unreadable.now) }
+{
+    let mut bads = Vec::new(alloc);
+    for x in unreadable {
+        bads.push(Bad {
+            page: x.page,
+            cause: word(x.cause),
+        })?;
+    }
+    Ok(List::of(bads))
+}
+
+fn pages_of(alloc: Global, line: u64, router: u32, sight: &Sight<'_>) -> Result<Item, NoMemory>
+    ensures { IfOk result (λ item. item ≡ sight_item line router (told_by sight.now)) }
 {
     Ok(Item::Pages {
         line,
         router: RouterId { number: router },
-        expired: None,
-        unreadable: List::of(Vec::new(alloc)),
-        used: List::of(vec![in alloc; PageNo { number: 0 }]?),
+        expired: sight.expired(),
+        unreadable: bads(alloc, sight.unreadable())?,
+        used: List::of(Vec::from_slice(alloc, sight.used())?),
     })
 }
 
-// Appends the lines of the routers' pages.
 fn push_pages(
     alloc: Global,
     out: &mut Vec<u8>,
     topology: &Topology,
     line: u64,
+    sights: &[Sight<'_>],
 ) -> Result<(), NoMemory>
-    ensures { OnOk result (out.new.items ≡ out.old.items ++ flat_map (item_text topology.now.names) (map (first_page_item line) (below (length topology.now.names)))) }
+    requires { length sights.now ≡ length topology.now.names }
+    ensures { OnOk result (AddsItems topology.now.names
+        (map (item_at told_by sights.now line) (below (length topology.now.names))) out.old.items out.new.items) }
 {
     let routers = topology.routers();
     for router in 0..routers {
-        push_item(out, topology, &first_page(alloc, line, router)?)?;
+        let item = pages_of(alloc, line, router, &sights[router as usize])?;
+        push_item(out, topology, &item)?;
     }
     Ok(())
 }
 
-/// Appends the lines of a query's answer.
-pub fn push_answer_to(
+fn push_query(
     alloc: Global,
     out: &mut Vec<u8>,
     topology: &Topology,
     line: u64,
+    barriers: &[Barrier],
+    sights: &[Sight<'_>],
     graph: &Graph,
 ) -> Result<(), NoMemory>
-    requires { IsGraphNamed topology.now.names graph.now }
-    ensures { OnOk result (out.new.items ≡ out.old.items ++ flat_map (item_text topology.now.names) (answer_items line (length topology.now.names) graph.now)) }
+    requires barriers { length barriers.now ≡ length topology.now.names }
+    requires sights { length sights.now ≡ length topology.now.names }
+    requires named { IsGraphNamed topology.now.names graph.now }
+    ensures { OnOk result (AddsItems topology.now.names
+        (query_items told_by (length topology.now.names) barriers.now sights.now line graph.now) out.old.items out.new.items) }
 {
     push_item(out, topology, &Item::Query { line })?;
-    push_pages(alloc, out, topology, line)?;
+    push_left(out, topology, line, barriers)?;
+    push_pages(alloc, out, topology, line, sights)?;
     push_graph(out, topology, line, graph)?;
     Ok(())
 }
 
 /// The totals with a graph's numbers.
-pub fn with_graph(totals: &Totals, graph: &Graph) -> Totals
+fn with_graph(totals: &Totals, graph: &Graph) -> Totals
     requires { IsRoomy totals.now }
     ensures exact { result ≡ with_answer totals.now (answer_item 0 graph.now) }
     ensures more { AreMore totals.now result }
@@ -73,4 +110,34 @@ pub fn with_graph(totals: &Totals, graph: &Graph) -> Totals
         unknown: totals.unknown + graph.unknown.items().len() as u128,
         clear: totals.clear + graph.clear.items().len() as u128,
     }
+}
+
+/// Prints the answer to a query, and adds it up.
+pub fn print_query(
+    alloc: Global,
+    trace: &Trace,
+    line: u64,
+    barriers: &[Barrier],
+    sights: &[Sight<'_>],
+    graph: &Graph,
+    state: &mut State,
+) -> Result<(), NoMemory>
+    requires barriers { length barriers.now ≡ length trace.now.topology.names }
+    requires sights { length sights.now ≡ length trace.now.topology.names }
+    requires named { IsGraphNamed trace.now.topology.names graph.now }
+    requires room { IsRoomy state.old.totals }
+    ensures { OnOk result (PrintsQuery trace.now
+        (query_items told_by (length trace.now.topology.names) barriers.now sights.now line graph.now) graph.now state.old state.new) }
+{
+    push_query(
+        alloc,
+        &mut state.report,
+        &trace.topology,
+        line,
+        barriers,
+        sights,
+        graph,
+    )?;
+    state.totals = with_graph(&state.totals, graph);
+    Ok(())
 }

@@ -1,23 +1,24 @@
 // The replay of a trace by one worker.
-ghost use Rattle.std.specs.Prelude.{◌≡◌, ◌<◌, ℕ, [], true, None, IfOk, OnOk, length, slice_get, slice_index_or, Some};
+ghost use Rattle.std.specs.Prelude.{◌≡◌, true, None, IfOk, OnOk, length};
 ghost use Rattle.std.specs.List.{All};
-ghost use Rattle.trace_format.specs.declared.What.TheVariants.{Fwd, Query, End};
 ghost use Rattle.topology.specs.Layout.{IsSound as IsSoundLayout};
-ghost use Rattle.trace_history.specs.Replay.{IsReplayed, no_shelf};
+ghost use Rattle.trace_format.specs.Sound.{IsSound};
+ghost use Rattle.trace_history.specs.Replay.{IsReplayed};
+ghost use Rattle.data_agent.specs.Standing.{StandsFor};
+ghost use Rattle.trace_replay.specs.Agents.{view_of, views_of};
 ghost use Rattle.trace_replay.specs.Built.{is_built, first_unbuilt_of};
-ghost use Rattle.trace_replay.specs.Printing.{IsGraphNamed};
-ghost use Rattle.trace_format.specs.Sound.{IsSound, IsWithin};
-ghost use Rattle.spie_base.specs.Shapes.{AreInRange};
-ghost use Rattle.trace_replay.specs.States.{IsReplaying, Does, HasDone, Represents, PrintsPending, Asks, Ends, IsRoomy, IsEmptyPage};
-ghost use Rattle.trace_replay.specs.declared.pages.OpenPage.{OpenPage};
+ghost use Rattle.trace_replay.specs.Loop.{HasDone, Proceeds};
+ghost use Rattle.trace_replay.specs.Segments.{is_barrier_line};
+ghost use Rattle.trace_replay.specs.Standing.{IsBegun, IsNext};
 
-use crate::pages::OpenPage;
-use crate::printing::push_pending;
-use crate::queries::{push_answer_to, with_graph};
-use crate::state::{PendingRecord, State};
+use crate::agents::open_all;
+use crate::closing::line_closing;
+use crate::lines::line_within;
+use crate::state::State;
+use data_agent::Agent;
+use page_shelf::Shelf;
 use report_text::{Item, push_item};
-use reverse_flood::{Graph, Node, flood};
-use spie_base::{List, NoMemory, PageNo, RouterId, Rules, Sig};
+use spie_base::{List, NoMemory};
 use std::alloc::Global;
 use trace_format::{Line, Trace, What};
 use trace_history::Totals;
@@ -36,182 +37,97 @@ pub struct Replayed {
     pub totals: Totals,
 }
 
-fn sig_of(trace: &Trace, packet: u32) -> Sig
-    requires { packet < length trace.now.sigs }
-    ensures { slice_get trace.now.sigs packet ≡ Some result }
+fn is_barrier(what: &What) -> bool
+    ensures { result ≡ is_barrier_line what.now }
 {
-    trace.sigs.items()[packet as usize]
+    matches!(what, What::Tick { .. } | What::Query { .. } | What::End)
 }
 
-// A record: it is printed at the next barrier, and its marks are set.
-fn forward(
-    trace: &Trace,
-    line: &Line,
-    router: RouterId,
-    packet: u32,
-    state: &mut State,
-) -> Result<(), NoMemory>
-    requires is { line.now.what ≡ Fwd router packet }
-    requires exists { router.number < length trace.now.topology.names }
-    requires known { packet < length trace.now.sigs }
-    requires stands { IsReplaying trace.now state.old }
-    ensures { OnOk result (Does trace.now line.now state.old state.new) }
-{
-    let sig = sig_of(trace, packet);
-    state.pending.push(PendingRecord {
-        line: line.number,
-        page: PageNo { number: 0 },
-    })?;
-    state.pages[router.number as usize].record(&sig);
-    Ok(())
-}
-
-// A barrier: the records since the last one are printed.
-fn print_pending(trace: &Trace, state: &mut State) -> Result<(), NoMemory>
-    ensures { OnOk result (PrintsPending trace.now state.old state.new) }
-{
-    push_pending(&mut state.report, &trace.topology, &state.pending)?;
-    state.pending.clear();
-    Ok(())
-}
-
-// Prints the answer to a query, and adds it up.
-fn answer(
-    alloc: Global,
-    trace: &Trace,
-    line: u64,
-    graph: &Graph,
-    state: &mut State,
-) -> Result<(), NoMemory>
-    requires named { IsGraphNamed trace.now.topology.names graph.now }
-    requires room { IsRoomy state.old.totals }
-    ensures { OnOk result (Asks trace.now line graph.now state.old state.new) }
-{
-    push_answer_to(alloc, &mut state.report, &trace.topology, line, graph)?;
-    state.totals = with_graph(&state.totals, graph);
-    Ok(())
-}
-
-fn query(
+fn step<H: Shelf>(
     alloc: Global,
     trace: &Trace,
     line: &Line,
-    router: RouterId,
-    packet: u32,
-    time: u64,
+    shelf: &mut H,
+    agents: &mut [Agent],
     state: &mut State,
 ) -> Result<(), NoMemory>
-    requires is { line.now.what ≡ Query router packet time }
-    requires exists { router.number < length trace.now.topology.names }
-    requires known { packet < length trace.now.sigs }
-    requires links { IsSoundLayout trace.now.topology }
-    requires stands { IsReplaying trace.now state.old }
-    ensures { OnOk result (Does trace.now line.now state.old state.new) }
-{
-    let sig = sig_of(trace, packet);
-    let graph = flood(alloc, &trace.topology, &state.pages, &Node { router, sig })?;
-    print_pending(trace, state)?;
-    answer(alloc, trace, line.number, &graph, state)?;
-    Ok(())
-}
-
-// Prints the last line.
-fn close(trace: &Trace, line: u64, state: &mut State) -> Result<(), NoMemory>
-    ensures { OnOk result (Ends trace.now line state.old state.new) }
-{
-    push_item(&mut state.report, &trace.topology, &Item::End { line })?;
-    Ok(())
-}
-
-fn end(trace: &Trace, line: &Line, state: &mut State) -> Result<(), NoMemory>
-    requires is { line.now.what ≡ End }
-    requires stands { IsReplaying trace.now state.old }
-    ensures { OnOk result (Does trace.now line.now state.old state.new) }
-{
-    print_pending(trace, state)?;
-    close(trace, line.number, state)?;
-    Ok(())
-}
-
-fn step(alloc: Global, trace: &Trace, line: &Line, state: &mut State) -> Result<(), NoMemory>
     requires built { is_built line.now.what ≡ true }
-    requires within { IsWithin (length trace.now.topology.names) (length trace.now.sigs) line.now.what }
     requires links { IsSoundLayout trace.now.topology }
-    requires stands { IsReplaying trace.now state.old }
-    ensures { OnOk result (Does trace.now line.now state.old state.new) }
+    requires ready { IsNext StandsFor trace.now line.now agents.old state.old
+        (view_of H.tells H.contents H.faults shelf.old) }
+    ensures { OnOk result (Proceeds StandsFor trace.now line.now agents.old agents.new state.old state.new
+        (view_of H.tells H.contents H.faults shelf.old) (view_of H.tells H.contents H.faults shelf.new)) }
 {
-    match line.what {
-        What::Fwd { router, packet } => forward(trace, line, router, packet, state),
-        What::Query {
-            router,
-            packet,
-            time,
-        } => query(alloc, trace, line, router, packet, time, state),
-        What::End => end(trace, line, state),
-        _ => unreachable!(),
+    if is_barrier(&line.what) {
+        line_closing(alloc, trace, line, shelf, agents, state)?;
+        return Ok(());
     }
+    line_within(alloc, trace, line, agents, state)?;
+    Ok(())
 }
 
-fn all_lines(
+fn all_lines<H: Shelf>(
     alloc: Global,
     trace: &Trace,
     lines: &[Line],
+    shelf: &mut H,
+    agents: &mut [Agent],
     state: &mut State,
 ) -> Result<(), NoMemory>
+    requires sound { IsSound trace.now }
     requires built { All (λ line. is_built line.what ≡ true) lines.now }
-    requires within { All (λ line. IsWithin (length trace.now.topology.names) (length trace.now.sigs) line.what) lines.now }
-    requires links { IsSoundLayout trace.now.topology }
-    requires begins { Represents trace.now [] state.old }
-    ensures { OnOk result (HasDone trace.now lines.now state.new) }
+    requires lines { lines.now ≡ trace.now.lines }
+    requires begins { HasDone StandsFor trace.now (view_of H.tells H.contents H.faults shelf.old) 0
+        agents.old state.old (view_of H.tells H.contents H.faults shelf.old) }
+    ensures { OnOk result (HasDone StandsFor trace.now (view_of H.tells H.contents H.faults shelf.old) (length lines.now)
+        agents.new state.new (view_of H.tells H.contents H.faults shelf.new)) }
 {
     for line in lines {
-        step(alloc, trace, line, state)?;
+        step(alloc, trace, line, shelf, agents, state)?;
     }
     Ok(())
 }
 
-fn open_pages(alloc: Global, rules: &Rules, routers: u32) -> Result<Vec<OpenPage>, NoMemory>
-    requires { AreInRange rules.now.k rules.now.n }
-    ensures count { IfOk result (λ pages. length pages.items ≡ routers) }
-    ensures empty { IfOk result (λ pages. (router : ℕ) (d : OpenPage) → router < routers → IsEmptyPage rules.now router (slice_index_or pages.items router d)) }
+fn begun(alloc: Global, trace: &Trace) -> Result<State, NoMemory>
+    ensures { IfOk result (IsBegun trace.now) }
 {
-    let mut pages = Vec::new(alloc);
-    for router in 0..routers {
-        pages.push(OpenPage::open(alloc, rules, router)?)?;
-    }
-    Ok(pages)
-}
-
-fn started(alloc: Global, trace: &Trace) -> Result<State, NoMemory>
-    requires { AreInRange trace.now.rules.k trace.now.rules.n }
-    ensures { IfOk result (λ state. Represents trace.now [] state) }
-{
-    let pages = open_pages(alloc, &trace.rules, trace.topology.routers())?;
     let mut report = Vec::new(alloc);
     push_item(&mut report, &trace.topology, &Item::Head)?;
     Ok(State {
-        pages,
-        pending: Vec::new(alloc),
+        clock: 0,
+        first: 0,
+        answers: Vec::new(alloc),
         report,
         totals: NO_TOTALS,
     })
 }
 
-/// Replays a trace with one worker, line by line. The trace keeps to the rules on names, packets and
-/// numbers, as each trace that was read does, and has no line that can't be replayed yet.
+/// Replays a trace with one worker over a shelf, segment by segment. The trace keeps to the rules on names, packets,
+/// numbers and times, as each trace that was read does, and has no line that can't be replayed yet.
 ///
-/// Costs, for a record, 7·k multiplications and k bits that are set; for a query, as much for each asked
-/// pair, the flood over them, and the lines of its answer. Takes a page for each router, 16 bytes for
-/// each record of a segment, what the flood takes during a query, and the report, each in a `Vec` that
-/// grows by doubling.
-pub fn replay_alone(alloc: Global, trace: &Trace) -> Result<Replayed, NoMemory>
+/// Costs, for a record, 7·k multiplications, k bits that are set and one answer that is kept; for a watch, as much for
+/// each page of its window; for a barrier, what each router's does, and the lines of its segment's answers; for a query,
+/// its flood over the pages of the window, and the lines of its answer. Takes a page for each page of a router that is
+/// in memory, 8 bytes for each line of a segment, what the flood takes during a query, and the report.
+pub fn replay_alone<H: Shelf>(
+    alloc: Global,
+    trace: &Trace,
+    shelf: &mut H,
+) -> Result<Replayed, NoMemory>
     requires sound { IsSound trace.now }
     requires built { first_unbuilt_of trace.now.lines ≡ None }
-    ensures { IfOk result (λ replayed. IsReplayed trace.now replayed.report replayed.totals no_shelf) }
+    ensures { IfOk result (λ r. IsReplayed trace.now r.report r.totals (views_of H.tells H.contents H.faults shelf.old shelf.new)) }
 {
-    let mut state = started(alloc, trace)?;
-    all_lines(alloc, trace, trace.lines.items(), &mut state)?;
-    print_pending(trace, &mut state)?;
+    let mut agents = open_all(alloc, &trace.rules, trace.topology.routers())?;
+    let mut state = begun(alloc, trace)?;
+    all_lines(
+        alloc,
+        trace,
+        trace.lines.items(),
+        shelf,
+        &mut agents,
+        &mut state,
+    )?;
     Ok(Replayed {
         report: List::of(state.report),
         totals: state.totals,

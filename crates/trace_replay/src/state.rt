@@ -1,21 +1,29 @@
-// What a replay keeps between two lines.
-
-use crate::pages::OpenPage;
-use spie_base::PageNo;
+// What a replay keeps between two lines, beside the agents.
+use router_account::Watch;
+use spie_base::{PageNo, RouterId};
 use trace_history::Totals;
 
-/// A record that is not printed yet: the page that it entered, and the number of its line.
+/// What a line was answered, but for how an archival splits its pages.
 #[derive(Clone, Copy, PartialEq, Eq, Debug)]
-pub struct PendingRecord {
-    pub line: u64,
-    pub page: PageNo,
+pub enum Answer {
+    /// A record entered this page.
+    Entered(PageNo),
+    /// A rotation opened this page.
+    Opened(PageNo),
+    /// A router's closed pages are archived. Which of them were put is known at the barrier.
+    Archived(RouterId),
+    Watched(Watch),
 }
 
-/// The pages by router, the records since the last barrier, and the report up to it with its totals.
+/// The clock, the answers since the last barrier, and the report up to it with its totals.
 #[derive(Drop)]
 pub struct State {
-    pub pages: Vec<OpenPage>,
-    pub pending: Vec<PendingRecord>,
+    /// The time of the last tick, or 0.
+    pub clock: u64,
+    /// The place of the first line behind the last barrier, from 0.
+    pub first: usize,
+    /// What the lines from there on were answered.
+    pub answers: Vec<Answer>,
     pub report: Vec<u8>,
     pub totals: Totals,
 }

@@ -1,6 +1,9 @@
-use Rattle.std.proofs.Common.{take}
-use Rattle.trace_replay.specs.States.{HasDone}
+use Rattle.data_agent.specs.Standing.{StandsFor}
+use Rattle.trace_replay.specs.Agents.{view_of}
+use Rattle.trace_replay.specs.Loop.{HasDone}
 use Rattle.trace_replay.proofs.replay.all_lines.Given as goal
 
 abbrev pub invariant-loop-line : goal.invariant-loop-line
-invariant-loop-line l = HasDone l.trace (take l.line-index l.lines) l.state
+invariant-loop-line g l =
+    let view = view_of g.H.Shelf.tells g.H.Shelf.contents g.H.Shelf.faults in
+    HasDone StandsFor l.trace (view l.fn.shelf) l.line-index l.agents l.state (view l.shelf)

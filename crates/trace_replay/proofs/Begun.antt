@@ -1,0 +1,115 @@
+-- How a replay begins and ends.
+use Rattle.std.proofs.Common.{ℕ, ◌≡◌, ◌<◌, ◌+◌, ◌-◌, ◌∷◌, [], ◌∙◌, true, List, length, get_or, take, sym, ap, refl, subst, arith}
+use Rattle.std.proofs.Math.Seq.{take-length}
+use Rattle.spie_base.proofs.Membership.{has_none}
+use Rattle.report_text.specs.declared.Item.TheVariants.{Head}
+use Rattle.trace_format.specs.declared.Line.{Line}
+use Rattle.trace_format.specs.declared.Trace.{Trace}
+use Rattle.trace_format.specs.Sound.{IsSound, AreTimed}
+use Rattle.router_account.specs.Ledger.{first_ledger, nothing_unfinished, no_split}
+use Rattle.router_account.specs.Shelves.{ShelfView}
+use Rattle.trace_history.specs.declared.Totals.{Totals}
+use Rattle.trace_history.specs.History.{History, IsHistoryOf}
+use Rattle.trace_history.specs.Outcomes.{fault_marks}
+use Rattle.trace_history.specs.Replay.{IsReplayed}
+use Rattle.trace_history.specs.Routers.{count, rules_of, sum_over}
+use Rattle.trace_replay.specs.declared.state.Answer.{Answer}
+use Rattle.trace_replay.specs.declared.state.State.{State}
+use Rattle.trace_replay.specs.Agents.{Standing}
+use Rattle.trace_replay.specs.Loop.{HasDone}
+use Rattle.trace_replay.specs.Segments.{Splits, filled, is_barrier_line, numbered}
+use Rattle.trace_replay.specs.Standing.{Stands, IsBegun, AreFew}
+use Rattle.trace_replay.proofs.Sums.{rose_less, rose_none, sum_none, get_at}
+
+pub stands_begun : {A : Type 0} (stands : Standing A) (t : Trace) (agents : List A) (s : State) (now : ShelfView) → length agents ≡ count t
+    → ((r : ℕ) (d : A) → r < count t → stands (get_or agents r d) (rules_of t r) (first_ledger r) nothing_unfinished) → IsBegun t s → Stands stands t now [] [] agents s now
+stands_begun stands t agents s now count_is first begun = record {
+  count_is = count_is;
+  clock_is = begun.clock;
+  clock_fits = let e = begun.clock in omega (arith, e);
+  first_is = begun.first;
+  pending_is = ap (λ (xs : List Answer). numbered t.lines s.first xs) begun.answers;
+  us = λ r. nothing_unfinished;
+  us_none = λ r none. refl;
+  us_closed = λ f r x h. absurd (has_none x h);
+  agents_stand = λ f. record { each = λ r d l. first r d (subst (λ (n : ℕ). r < n) count_is l); numbered = λ r. refl };
+  ordered = record { inner = tt; once = tt; barred = tt; forward = tt };
+  right = record { sequential = λ f. tt; watched = λ f. tt; allowed_before = tt; allowed = λ f hyp. tt; same_digests = tt };
+  printed = record {
+    items = Head ∷ [];
+    answered = refl;
+    report_is = begun.report;
+    totals_are = begun.totals;
+    few = let F : Totals → Type 0 = λ z. AreFew z (length s.report.items) in
+        subst F (sym begun.totals) (record { nodes = omega arith; edges = omega arith; unknown = omega arith; clear = omega arith });
+  };
+  shelf = record {
+    later = omega arith;
+    still = refl;
+    paid = rose_less 0 (0 + sum_over (count t) (λ r. 0)) now.faults now.faults (rose_none now.faults now.faults (omega arith)) (let e = sum_none (count t) in omega (arith, e));
+    all_true = λ tells. tt;
+    only_faults = λ tells. tt;
+    holds = λ tells f r l. record {
+      records = record { put = λ page part put live. absurd (has_none page put); gone = λ page part old covered left. absurd (has_none page covered) };
+      bits = λ x h. absurd (has_none x h);
+      true_bits = λ x h. absurd (has_none x h);
+    };
+  };
+}
+
+pub done_begun : {A : Type 0} (stands : Standing A) (t : Trace) (agents : List A) (s : State) (now : ShelfView) → IsSound t → IsBegun t s → Stands stands t now [] [] agents s now → HasDone stands t now 0 agents s now
+done_begun stands t agents s now sound begun stood =
+    let T : ℕ → Type 0 = λ c. AreTimed c t.lines in
+    record {
+      history = [];
+      seg = [];
+      lines_are = λ f. refl;
+      counted = refl;
+      few_records = let n = sound.few_records in omega (arith, n);
+      stood = stood;
+      timed = subst T (sym begun.clock) sound.timed;
+      once = sound.once;
+      closed = λ d l b. refl;
+    }
+
+-- the last line is the end
+last_closes : (t : Trace) (d : Line) → IsSound t → is_barrier_line (get_or t.lines (length t.lines - 1) d).what ≡ true
+last_closes t d sound =
+    let some = sound.ended.some in
+    let i = length t.lines - 1 in
+    let line = get_or t.lines i d in
+    let within : i < length t.lines = omega (arith, some) in
+    let last : i + 1 ≡ length t.lines = omega (arith, some) in
+    ap is_barrier_line ((sound.ended.last i line (get_at t.lines i d within)).1 last)
+
+pub replayed : {A : Type 0} (stands : Standing A) (t : Trace) (start now : ShelfView) (d : Line) (agents : List A) (s : State) (text : List ℕ) → IsSound t → HasDone stands t start (length t.lines) agents s now → text ≡ s.report.items
+    → IsReplayed t text s.totals (record { shelf_before = start; shelf_after = now })
+replayed stands t start now d agents s text sound done is =
+    let none : done.seg ≡ [] = done.closed d sound.ended.some (last_closes t d sound) in
+    let S : History → Type 0 = λ seg. Stands stands t start done.history seg agents s now in
+    let L : History → Type 0 = λ seg. (f : Splits) → IsHistoryOf t.sigs (take (length t.lines) t.lines) (filled f seg done.history) in
+    let W : List Line → Type 0 = λ ls. IsHistoryOf t.sigs ls done.history in
+    let stood = subst S none done.stood in
+    let f : Splits = λ r. no_split in
+    record {
+      history = done.history;
+      sequential = stood.right.sequential f;
+      watched = stood.right.watched f;
+      done = record {
+        lines_are = subst W (take-length t.lines) (subst L none done.lines_are f);
+        allowed = stood.right.allowed_before;
+        same_digests = stood.right.same_digests;
+        shelf = record {
+          paid = rose_less (fault_marks (count t) done.history + sum_over (count t) (λ r. (stood.us r).refused)) (fault_marks (count t) done.history) start.faults now.faults stood.shelf.paid (omega arith);
+          all_true = stood.shelf.all_true;
+          only_faults = stood.shelf.only_faults;
+          holds = λ tells r l. (stood.shelf.holds tells f r l).records;
+        };
+      };
+      report = record {
+        items = stood.printed.items;
+        answered = stood.printed.answered;
+        text_is = is ∙ stood.printed.report_is;
+        totals_are = stood.printed.totals_are;
+      };
+    }

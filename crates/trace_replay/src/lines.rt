@@ -1,0 +1,140 @@
+// The lines of a segment, one after another.
+ghost use Rattle.std.specs.Prelude.{◌≡◌, ◌<◌, true, false, OnOk, length, slice_get, Some};
+ghost use Rattle.trace_format.specs.declared.What.TheVariants.{Fwd, Xf, Rotate, Watch as WatchLine};
+ghost use Rattle.router_account.specs.Shelves.{ShelfView};
+ghost use Rattle.data_agent.specs.Standing.{StandsFor};
+ghost use Rattle.trace_replay.specs.Built.{is_built};
+ghost use Rattle.trace_replay.specs.Segments.{is_barrier_line};
+ghost use Rattle.trace_replay.specs.Standing.{IsNext, Does, Adds};
+
+use crate::state::{Answer, State};
+use data_agent::Agent;
+use packet_signature::{Kind, row};
+use spie_base::{NoMemory, RouterId, Sig};
+use std::alloc::Global;
+use trace_format::{Line, Trace, What};
+
+/// The signature of a packet.
+pub fn sig_of(trace: &Trace, packet: u32) -> Sig
+    requires { packet < length trace.now.sigs }
+    ensures { slice_get trace.now.sigs packet ≡ Some result }
+{
+    trace.sigs.items()[packet as usize]
+}
+
+fn answered(state: &mut State, answer: Answer) -> Result<(), NoMemory>
+    ensures { OnOk result (Adds state.old state.new answer) }
+{
+    state.answers.push(answer)?;
+    Ok(())
+}
+
+fn forward(
+    trace: &Trace,
+    line: &Line,
+    router: RouterId,
+    packet: u32,
+    agents: &mut [Agent],
+    state: &mut State,
+) -> Result<(), NoMemory>
+    requires is { line.now.what ≡ Fwd router packet }
+    requires ready { (now : ShelfView) × IsNext StandsFor trace.now line.now agents.old state.old now }
+    ensures { OnOk result ((now : ShelfView) →
+        Does StandsFor trace.now line.now agents.old agents.new state.old state.new now now) }
+{
+    let sig = sig_of(trace, packet);
+    let page = agents[router.number as usize].forward(&sig);
+    answered(state, Answer::Entered(page))?;
+    Ok(())
+}
+
+// The new signature is recorded, and the row says what it was before.
+fn transform(
+    alloc: Global,
+    trace: &Trace,
+    line: &Line,
+    router: RouterId,
+    kind: Kind,
+    old: u32,
+    new: u32,
+    agents: &mut [Agent],
+    state: &mut State,
+) -> Result<(), NoMemory>
+    requires is { line.now.what ≡ Xf router kind old new }
+    requires ready { (now : ShelfView) × IsNext StandsFor trace.now line.now agents.old state.old now }
+    ensures { OnOk result ((now : ShelfView) →
+        Does StandsFor trace.now line.now agents.old agents.new state.old state.new now now) }
+{
+    let before = sig_of(trace, old);
+    let sig = sig_of(trace, new);
+    let agent = &mut agents[router.number as usize];
+    let page = agent.forward(&sig);
+    agent.transform(alloc, page, &row(kind, &before, &sig))?;
+    answered(state, Answer::Entered(page))?;
+    Ok(())
+}
+
+fn rotate(
+    alloc: Global,
+    trace: &Trace,
+    line: &Line,
+    router: RouterId,
+    agents: &mut [Agent],
+    state: &mut State,
+) -> Result<(), NoMemory>
+    requires is { line.now.what ≡ Rotate router }
+    requires ready { (now : ShelfView) × IsNext StandsFor trace.now line.now agents.old state.old now }
+    ensures { OnOk result ((now : ShelfView) →
+        Does StandsFor trace.now line.now agents.old agents.new state.old state.new now now) }
+{
+    let page = agents[router.number as usize].rotate_alone(alloc, state.clock)?;
+    answered(state, Answer::Opened(page))?;
+    Ok(())
+}
+
+fn watch(
+    trace: &Trace,
+    line: &Line,
+    router: RouterId,
+    packet: u32,
+    agents: &[Agent],
+    state: &mut State,
+) -> Result<(), NoMemory>
+    requires is { line.now.what ≡ WatchLine router packet }
+    requires ready { (now : ShelfView) × IsNext StandsFor trace.now line.now agents.now state.old now }
+    ensures { OnOk result ((now : ShelfView) →
+        Does StandsFor trace.now line.now agents.now agents.now state.old state.new now now) }
+{
+    let sig = sig_of(trace, packet);
+    let seen = agents[router.number as usize].watch(state.clock, &sig);
+    answered(state, Answer::Watched(seen))?;
+    Ok(())
+}
+
+/// A line of a segment.
+pub fn line_within(
+    alloc: Global,
+    trace: &Trace,
+    line: &Line,
+    agents: &mut [Agent],
+    state: &mut State,
+) -> Result<(), NoMemory>
+    requires built { is_built line.now.what ≡ true }
+    requires inner { is_barrier_line line.now.what ≡ false }
+    requires ready { (now : ShelfView) × IsNext StandsFor trace.now line.now agents.old state.old now }
+    ensures { OnOk result ((now : ShelfView) →
+        Does StandsFor trace.now line.now agents.old agents.new state.old state.new now now) }
+{
+    match line.what {
+        What::Fwd { router, packet } => forward(trace, line, router, packet, agents, state),
+        What::Xf {
+            router,
+            kind,
+            old,
+            new,
+        } => transform(alloc, trace, line, router, kind, old, new, agents, state),
+        What::Rotate { router } => rotate(alloc, trace, line, router, agents, state),
+        What::Watch { router, packet } => watch(trace, line, router, packet, agents, state),
+        _ => unreachable!(),
+    }
+}
