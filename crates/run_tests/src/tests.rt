@@ -5,8 +5,12 @@ use std::sync::Wait;
 use std::test::Fail;
 use std::thread::Threads;
 
+mod transforms;
+
 const PRELUDE: &str =
     "spie-trace 1\nshape 3 16 60000 1000 8 5000 100 0123456789abcdef\nrouter a east\nrouter b east\nrouter c west\nlink a b\nlink b c\nbegin\n";
+
+const ROUTERS: &str = "router a east\nrouter b east\nrouter c west\nlink a b\nlink b c\nbegin\n";
 
 // Two packets that differ in fields that routers change alone, and one from another source.
 const P0: &str = "4500001c00010000401166ce0a0000010a0000020102030405060708";
@@ -48,6 +52,21 @@ fn gives<R: Threads + Wait + Sync + AllocGlobal>(
     let input = format!(in alloc; "{PRELUDE}{body}")?;
     let (ended, text) = ran(rt, &["replay", "1"], &input, 9999, 100000)?;
     Ok(ended == status && text.as_slice() == output.as_bytes())
+}
+
+// Whether `replay 1` has this report, where the prelude has another shape and its first packet.
+fn reports<R: Threads + Wait + Sync + AllocGlobal>(
+    rt: &R,
+    shape: &str,
+    body: &str,
+    output: &str,
+) -> Result<bool, Fail> {
+    let alloc = rt.alloc();
+    let input = format!(in alloc;
+        "spie-trace 1\nshape {shape} 0123456789abcdef\n{ROUTERS}packet {P0}\n{body}"
+    )?;
+    let (ended, text) = ran(rt, &["replay", "1"], &input, 9999, 100000)?;
+    Ok(ended == Status::Done && text.as_slice() == output.as_bytes())
 }
 
 // The lines of a query whose flood has all three routers.
@@ -111,11 +130,119 @@ fn clear_query(rt: HostRuntime) -> Result<(), Fail> {
     Ok(())
 }
 
+// A shape, the lines behind the packet, and the report: a page that is full, a watch before and after its record, records
+// between rotations; and the age, the number of kept pages and the span, each just before it is reached and just then.
+const PAGES: [(&str, &str, &str); 6] = [
+    (
+        "1 16 1 1000 8 5000 100",
+        "tick 1\nfwd a 0\ntick 2\nfwd a 0\nend\n",
+        "spie-report 1\n10 tick 1\n11 in 0\n12 tick 2\n12 closed a 0 1\n13 in 1\n14 end\n",
+    ),
+    (
+        "3 16 60000 1000 8 5000 100",
+        "watch a 0\nfwd a 0\nwatch a 0\nend\n",
+        "spie-report 1\n10 not-seen\n11 in 0\n12 seen\n13 end\n",
+    ),
+    (
+        "3 16 60000 1000 8 5000 100",
+        "fwd a 0\nfwd a 0\nfwd a 0\nfwd a 0\nrotate a\nfwd a 0\nfwd a 0\nfwd a 0\nfwd a 0\nrotate a\nfwd a 0\nfwd a 0\nfwd a 0\nfwd a 0\nrotate a\nfwd a 0\nfwd a 0\nfwd a 0\nfwd a 0\nrotate a\nend\n",
+        "spie-report 1\n10 in 0\n11 in 0\n12 in 0\n13 in 0\n14 opened 1\n15 in 1\n16 in 1\n17 in 1\n18 in 1\n19 opened 2\n20 in 2\n21 in 2\n22 in 2\n23 in 2\n24 opened 3\n25 in 3\n26 in 3\n27 in 3\n28 in 3\n29 opened 4\n30 end\n",
+    ),
+    (
+        "3 16 60000 1000 8 5 100",
+        "fwd a 0\ntick 1\nrotate a\ntick 5\nwatch a 0\ntick 6\nwatch a 0\nend\n",
+        "spie-report 1\n10 in 0\n11 tick 1\n12 opened 1\n13 tick 5\n14 seen\n15 tick 6\n16 unknown\n17 end\n",
+    ),
+    (
+        "3 16 60000 1000 2 5000 100",
+        "fwd a 0\nrotate a\nrotate a\ntick 1\nwatch a 0\nrotate a\ntick 2\nwatch a 0\nend\n",
+        "spie-report 1\n10 in 0\n11 opened 1\n12 opened 2\n13 tick 1\n14 seen\n15 opened 3\n16 tick 2\n17 unknown\n18 end\n",
+    ),
+    (
+        "3 16 60000 10 8 5000 100",
+        "tick 9\ntick 10\nend\n",
+        "spie-report 1\n10 tick 9\n11 tick 10\n11 closed a 0 0\n11 closed b 0 0\n11 closed c 0 0\n12 end\n",
+    ),
+];
+
+#[test]
+fn pages_open_and_close(rt: HostRuntime) -> Result<(), Fail> {
+    for (shape, body, output) in PAGES {
+        assert!(rt; reports(&rt, shape, body, output)?, "{body}");
+    }
+    Ok(())
+}
+
+#[test]
+fn expired_is_unknown(rt: HostRuntime) -> Result<(), Fail> {
+    let alloc = rt.alloc();
+    let shape = "3 16 60000 1000 1 5000 100";
+    let body = "fwd a 0\nfwd b 0\nfwd c 0\ntick 1\nrotate a\nrotate a\nrotate a\ntick 2\n";
+    let front =
+        "spie-report 1\n10 in 0\n11 in 0\n12 in 0\n13 tick 1\n14 opened 1\n15 opened 2\n16 opened 3\n17 tick 2\n";
+    let pages =
+        "18 query\n18 pages a expired 0-1 unreadable - used 2,3\n18 pages b expired - unreadable - used 0\n18 pages c expired - unreadable - used 0\n";
+    let graph = format!(in alloc;
+        "18 node b {SIG}\n18 node c {SIG}\n18 edge b {SIG} c {SIG}\n18 edge c {SIG} b {SIG}\n18 unknown a {SIG}\n18 answer nodes 2 edges 2 unknown 1 clear 0\n"
+    )?;
+    let asked = format!(in alloc; "{body}query c 0 2\nend\n")?;
+    let report = format!(in alloc; "{front}{pages}{graph}19 end\n")?;
+    assert!(rt; reports(&rt, shape, &asked, &report)?);
+    let watched = format!(in alloc; "{body}watch a 0\nend\n")?;
+    let report = format!(in alloc; "{front}18 unknown\n19 end\n")?;
+    assert!(rt; reports(&rt, shape, &watched, &report)?);
+    Ok(())
+}
+
+// The lines of a query at the first router, for which each router uses these pages, and its answer.
+fn answer_at_a(alloc: Global, line: u64, used: &str, graph: &str) -> Result<String, Fail> {
+    Ok(format!(in alloc;
+        "{line} query\n{line} pages a expired - unreadable - used {used}\n{line} pages b expired - unreadable - used {used}\n{line} pages c expired - unreadable - used {used}\n{graph}"
+    )?)
+}
+
+#[test]
+fn window_by_width(rt: HostRuntime) -> Result<(), Fail> {
+    let alloc = rt.alloc();
+    let body = "fwd a 0\ntick 10\nquery a 0 9\nquery a 0 10\ntick 11\nquery a 0 11\nend\n";
+    let closed =
+        "spie-report 1\n10 in 0\n11 tick 10\n11 closed a 0 1\n11 closed b 0 0\n11 closed c 0 0\n";
+    let seen = format!(in alloc; "12 node a {SIG}\n12 answer nodes 1 edges 0 unknown 0 clear 1\n")?;
+    let first = answer_at_a(alloc, 12, "0", &seen)?;
+    let seen = format!(in alloc; "13 node a {SIG}\n13 answer nodes 1 edges 0 unknown 0 clear 1\n")?;
+    let second = answer_at_a(alloc, 13, "0,1", &seen)?;
+    let third = answer_at_a(
+        alloc,
+        15,
+        "1",
+        "15 answer nodes 0 edges 0 unknown 0 clear 1\n",
+    )?;
+    let report = format!(in alloc; "{closed}{first}{second}14 tick 11\n{third}16 end\n")?;
+    assert!(rt; reports(&rt, "1 16 60000 10 8 5000 0", body, &report)?);
+    Ok(())
+}
+
+// One tick closes the full pages of two routers, and a page of the third expires, since another closed behind it.
+#[test]
+fn two_close_and_a_third_expires(rt: HostRuntime) -> Result<(), Fail> {
+    let alloc = rt.alloc();
+    let body = "fwd a 0\nfwd b 0\nrotate c\nrotate c\ntick 1\nquery c 0 1\nend\n";
+    let closed =
+        "spie-report 1\n10 in 0\n11 in 0\n12 opened 1\n13 opened 2\n14 tick 1\n14 closed a 0 1\n14 closed b 0 1\n";
+    let pages =
+        "15 query\n15 pages a expired - unreadable - used 0,1\n15 pages b expired - unreadable - used 0,1\n15 pages c expired 0-0 unreadable - used 1,2\n";
+    let report = format!(in alloc;
+        "{closed}{pages}15 unknown c {SIG}\n15 answer nodes 0 edges 0 unknown 1 clear 0\n16 end\n"
+    )?;
+    assert!(rt; reports(&rt, "1 16 1 1000 1 5000 100", body, &report)?);
+    Ok(())
+}
+
 // The first with another checksum.
 const WRONG: &str = "4500001c00010000401166cf0a0000010a0000020102030405060708";
 
 // A packet, the line behind its records, the lines behind that one, and what is written.
-const REFUSALS: [(&str, &str, &str, &str); 10] = [
+const REFUSALS: [(&str, &str, &str, &str); 9] = [
     (WRONG, "query c 0 0", "end\n", "refused 9 checksum\n"),
     (P0, "query c 0 0", "", "refused 14 ending\n"),
     (P0, "quary c 0 0", "end\n", "refused 13 word\n"),
@@ -124,8 +251,7 @@ const REFUSALS: [(&str, &str, &str, &str); 10] = [
     (P0, "fwd a 1", "end\n", "refused 13 no-packet\n"),
     (P0, "xf a ipip 0 0", "end\n", "refused 13 kind\n"),
     (P0, "query c 0 0", "end\nx\n", "refused 15 after\n"),
-    (P0, "tick 1", "end\n", "refused 13 unbuilt\n"),
-    (P0, "rotate a", "tick 1\nend\n", "refused 13 unbuilt\n"),
+    (P0, "archive a", "end\n", "refused 13 unbuilt\n"),
 ];
 
 #[test]

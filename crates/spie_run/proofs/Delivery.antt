@@ -1,7 +1,6 @@
 -- What a run's answers tell of its input and output, exit by exit.
 use Rattle.std.proofs.Common.{ℕ, ◌≡◌, ◌+◌, ◌<◌, List, [], ◌∷◌, ◌++◌, ◌∙◌, inl, inr, ⊎_elim, length, refl, sym, ap, subst, arith, lit<}
 use Rattle.std.specs.Prelude.{codes, Some, None, IsSome}
-use Rattle.std.specs.declared.option.Option.{Option}
 use Rattle.std.specs.Io.KnownBytes.{Consumes, Appends, IsAtEnd}
 use Rattle.std.proofs.lemmas.Fmt.{decimal_digit}
 use Rattle.spie_base.specs.Transfer.{TookCount}
@@ -15,7 +14,7 @@ use Rattle.spie_run.specs.Refusals.{fault_text}
 use Rattle.spie_run.specs.declared.words.Command.{Command}
 use Rattle.spie_run.specs.declared.words.Command.TheVariants.{Replay, Play}
 use Rattle.spie_run.specs.Words.{command_of}
-use Rattle.spie_run.specs.Run.{Outputs, Refuses, Answers, AnswersTrace, Told, Views, IsReadOut, Delivered, IsDone, IsRefused, IsCutShort, IsFaultless, HasFailed, Ran}
+use Rattle.spie_run.specs.Run.{Refuses, Answers, AnswersTrace, Views, Delivered, IsDone, IsRefused, IsCutShort, HasFailed, Ran}
 
 -- the answer to a trace is the answer to the text that it was read from
 pub answers_text : (s : Status) (text output : List ℕ) (trace : Trace) → IsTrace text trace → AnswersTrace s trace output → Answers Replay s text output
@@ -38,7 +37,7 @@ refused_long Play input long = (too_long, inl (long, refl), too_long_text)
 past_limit : (bytes : List ℕ) → length bytes ≡ most_bytes + 1 → most_bytes < length bytes
 past_limit bytes e = omega (arith, e)
 
--- words that are none of the forms
+-- an unknown command or wrong arguments
 pub ran_usage : (words : List (List ℕ)) (v : Views) → command_of words ≡ None → Ran words v v status.Usage
 ran_usage words v none = record {
   done = λ e. absurd (let q : status.Usage ≡ status.Done = e in cc);

@@ -1,7 +1,7 @@
 -- What a run answers, and what it reads and writes.
 --
--- Read `Ran` first, at the end: it is the promise of the program, by the words, the status, and what source and sink tell
--- before the run and after it.
+-- Read `Ran` first, at the end: it is the promise of the program, by the arguments, the status, and what source and sink
+-- tell before the run and after it.
 use Rattle.std.specs.Prelude.{ℕ, ◌+◌, ◌≤◌, ◌≡◌, ◌⊎◌, ◌↔◌, List, length, Some, None, IsSome}
 use Rattle.std.specs.declared.option.Option.{Option}
 use Rattle.std.specs.Io.KnownBytes.{Consumes, Appends, IsAtEnd}
@@ -91,14 +91,14 @@ views left read_faults written write_faults source sink = record { source = told
 abbrev pub IsReadOut : (before after : Told) → (input : List ℕ) → Type 0
 IsReadOut before after input = Consumes before.bytes after.bytes input × (IsAtEnd after.bytes ⊎ (length input ≡ most_bytes + 1))
 
--- a text is written whole, or a front of it stands and the sink has failed
+-- a text is written whole, or a prefix of it stands and the sink has failed
 pub record Delivered (want answer : Status) (before after : Told) (text : List ℕ) : Type 0 where
   pub later : before.faults ≤ after.faults
   pub outcome : ((answer ≡ want) × Appends before.bytes after.bytes text × (after.faults ≡ before.faults)) ⊎ ((answer ≡ status.WriteFault) × AppendsFront before.bytes after.bytes text × Rose before.faults after.faults)
 
 -- ---- the statuses
 
--- Done: the input was read to its end, and what the words ask for was made of it and written
+-- Done: the input was read to its end, and what the arguments ask for was made of it and written
 pub record IsDone (words : List (List ℕ)) (before after : Views) : Type 0 where
   pub command : Command
   pub input : List ℕ
@@ -119,7 +119,7 @@ pub record IsRefused (words : List (List ℕ)) (before after : Views) : Type 0 w
   pub refuses : Refuses command input output
   pub written : Appends before.sink.bytes after.sink.bytes output
 
--- WriteFault: the input was read out, and a front stands of what was to be written
+-- WriteFault: the input was read out, and a prefix stands of what was to be written
 pub record IsCutShort (words : List (List ℕ)) (before after : Views) : Type 0 where
   pub command : Command
   pub input : List ℕ
@@ -130,7 +130,7 @@ pub record IsCutShort (words : List (List ℕ)) (before after : Views) : Type 0 
   pub answers : Answers command status input output
   pub front : AppendsFront before.sink.bytes after.sink.bytes output
 
--- the statuses of a run in which neither source nor sink failed, and whose words are right
+-- the statuses of a run in which neither source nor sink failed, and whose arguments are right
 abbrev pub IsFaultless : Status → Type 0
 IsFaultless status.Done = Unit {0}
 IsFaultless status.TraceRefused = Unit {0}
@@ -140,7 +140,7 @@ IsFaultless _ = ⊥
 abbrev pub HasFailed : (before after : Told) → Type 0
 HasFailed before after = Rose before.faults after.faults
 
--- A run by these words ended so
+-- A run with these arguments ended so
 pub record Ran (words : List (List ℕ)) (before after : Views) (answer : Status) : Type 0 where
   -- what was read and written
   pub done : answer ≡ status.Done → IsDone words before after
@@ -154,5 +154,5 @@ pub record Ran (words : List (List ℕ)) (before after : Views) (answer : Status
   -- the counts of faults stay where nothing failed
   pub faultless : IsFaultless answer → (after.source.faults ≡ before.source.faults) × (after.sink.faults ≡ before.sink.faults)
   pub read_first : answer ≡ status.WriteFault → after.source.faults ≡ before.source.faults
-  -- with the right words and no fault a run is done, or its input is refused, or memory was refused
+  -- with right arguments and no fault a run is done, or its input is refused, or memory was refused
   pub complete : IsSome (command_of words) → (HasFailed before.source after.source → ⊥) → (HasFailed before.sink after.sink → ⊥) → IsFaultless answer

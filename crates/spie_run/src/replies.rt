@@ -1,14 +1,18 @@
 // What a command makes of an input.
-ghost use Rattle.std.specs.Prelude.{◌≡◌, IfOk};
+ghost use Rattle.std.specs.Prelude.{◌≡◌, None, IfOk};
 ghost use Rattle.play_script.specs.Report.{IsReport};
 ghost use Rattle.play_script.specs.Sound.{IsSound as IsSoundScript};
 ghost use Rattle.trace_format.specs.Sound.{IsSound};
+ghost use Rattle.trace_history.specs.Replay.{IsReplayed, no_shelf};
+ghost use Rattle.trace_history.specs.declared.Totals.{Totals};
+ghost use Rattle.trace_replay.specs.Built.{first_unbuilt_of};
 ghost use Rattle.spie_run.specs.Run.{Answers, AnswersTrace};
 ghost use Rattle.spie_run.specs.declared.words.Command.TheVariants as command;
 
 use crate::refusals::{fault_text, refusal_text};
 use crate::words::Command;
 use gate_core::play;
+use page_shelf::MemShelf;
 use play_script::{PlayScript, play_text, read_play};
 use spie_base::{NoMemory, Status};
 use std::alloc::Global;
@@ -22,6 +26,16 @@ pub struct Reply {
     pub text: Vec<u8>,
 }
 
+// The report of a replay. No page is archived yet, so an empty shelf that is made on the spot serves.
+fn report_of(alloc: Global, trace: &Trace) -> Result<Vec<u8>, NoMemory>
+    requires sound { IsSound trace.now }
+    requires built { first_unbuilt_of trace.now.lines ≡ None }
+    ensures { IfOk result (λ text. (totals : Totals) × IsReplayed trace.now text.items totals no_shelf) }
+{
+    let mut shelf = MemShelf::new(alloc, &[])?;
+    Ok(replay_alone(alloc, trace, &mut shelf)?.report.into_vec())
+}
+
 fn reply_to_trace(alloc: Global, trace: &Trace) -> Result<Reply, NoMemory>
     requires { IsSound trace.now }
     ensures { IfOk result (λ reply. AnswersTrace reply.status trace.now reply.text.items) }
@@ -33,7 +47,7 @@ fn reply_to_trace(alloc: Global, trace: &Trace) -> Result<Reply, NoMemory>
         }),
         None => Ok(Reply {
             status: Status::Done,
-            text: replay_alone(alloc, trace)?.report.into_vec(),
+            text: report_of(alloc, trace)?,
         }),
     }
 }

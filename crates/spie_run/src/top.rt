@@ -1,4 +1,4 @@
-// The top call.
+// The top call: reads the whole input, has the whole output made, and writes it.
 ghost use Rattle.std.specs.Prelude.{◌≡◌, ◌⊎◌, map, string_bytes};
 ghost use Rattle.spie_base.specs.declared.Status.{Status};
 ghost use Rattle.spie_run.specs.Run.{told, views, Delivered, Ran};
@@ -24,9 +24,9 @@ fn deliver<K: Sink>(sink: &mut K, status: Status, text: &[u8]) -> Status
     }
 }
 
-/// Reads a whole input, does what the words ask for, and writes the whole output. The words `replay 1` ask for the
-/// report of a trace, `play` for what the steps of a script answered; all others are `Usage`. These words wait for
-/// nobody, so the call returns.
+/// Reads a whole input, does what the arguments ask for, and writes the whole output. `replay 1` asks for the report
+/// of a trace, `play` for what the steps of a script answered; an unknown command and wrong arguments are `Usage`.
+/// These commands wait for nobody, so the call returns.
 ///
 /// Nothing is written before the input was read, to its end or one byte past its limit of 64 MiB, and the
 /// output made whole. Takes the input, what is kept of it, and the output.
@@ -56,8 +56,8 @@ pub fn run_alone<S: Source, K: Sink>(
     }
 }
 
-/// The run of the program; `rt` and `alloc` are those of the program. For words that wait for nobody, as all words
-/// do yet, it is `run_alone`.
+/// The run of the program; `rt` and `alloc` are those of the program. For commands that wait for nobody, as all do
+/// yet, it is `run_alone`.
 pub fn run<R: Threads + Wait + Sync, S: Source, K: Sink>(
     rt: &R,
     alloc: Global,

@@ -1,8 +1,8 @@
-// The words of the command line.
+// The arguments of the command line.
 ghost use Rattle.std.specs.Prelude.{◌≡◌, map, string_bytes};
 ghost use Rattle.spie_run.specs.Words.{command_of};
 
-/// What the words of the command line ask for.
+/// What the arguments ask for.
 #[derive(Clone, Copy, PartialEq, Eq, Debug)]
 pub enum Command {
     /// `replay 1`: a trace is replayed by one worker.
@@ -11,7 +11,7 @@ pub enum Command {
     Play,
 }
 
-/// What the words ask for, and `None` where they are none of the forms.
+/// What the arguments ask for, and `None` for an unknown command or wrong arguments.
 pub fn command_of(words: &[String]) -> Option<Command>
     ensures { result ≡ command_of (map string_bytes words.now) }
 {
