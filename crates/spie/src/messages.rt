@@ -1,0 +1,89 @@
+// What is said on standard error, where standard output is silent or has a refusal.
+use spie_base::Status;
+
+const USAGE: &str = "usage: spie replay 1 < TRACE > REPORT     replays a trace with one worker
+       spie play < SCRIPT > ANSWERS        does the steps of a script on the gate of a router's pages
+example: spie replay 1 < examples/three_in_a_line.trace";
+
+// Each word of a refusal, and what it says.
+const REFUSALS: [(&str, &str); 23] = [
+    ("too-long", "the input has more than 67,108,864 bytes"),
+    ("after", "there is more input behind the line `end`"),
+    (
+        "ending",
+        "the input ends here, without a line end or without the line `end`",
+    ),
+    ("length", "the line has more than 4,096 bytes"),
+    ("word", "unknown command, or one that may not stand here"),
+    (
+        "fields",
+        "wrong number of fields; one space stands between two fields",
+    ),
+    ("field", "a field is not of its form, or out of its range"),
+    ("double-name", "there is a router of this name already"),
+    ("no-name", "there is no router of this name"),
+    ("self-link", "a router can't be linked with itself"),
+    ("double-link", "these routers are linked already"),
+    ("no-router", "no router was declared before `begin`"),
+    ("too-many", "there are too many of these"),
+    ("short", "the packet has fewer than 20 bytes"),
+    ("version", "the packet's version is not 4"),
+    (
+        "header-length",
+        "the packet's header length is below 20 bytes, or more than is there",
+    ),
+    (
+        "total-length",
+        "the packet's total length is below its header length",
+    ),
+    ("checksum", "the header checksum is wrong"),
+    ("no-packet", "no packet of this number was given yet"),
+    (
+        "kind",
+        "this kind of transform doesn't fit the packets' protocols",
+    ),
+    (
+        "clock",
+        "the time of a tick must be above the clock, that of a query not",
+    ),
+    (
+        "twice",
+        "this router was archived already since the last tick or query",
+    ),
+    ("unbuilt", "this command can't be replayed yet"),
+];
+
+// What the word of a refusal says.
+fn sentence(why: &str) -> &'static str {
+    for (word, text) in &REFUSALS {
+        if *word == why {
+            return text;
+        }
+    }
+    "the input is refused"
+}
+
+fn refusal(rt: &HostRuntime, front: &[u8]) -> std::io::Result<()> {
+    let text = std::str::from_utf8(front).unwrap_or("");
+    let line = text.trim_end();
+    let rest = line.strip_prefix("refused ").unwrap_or(line);
+    match rest.split_once(' ') {
+        Some((number, why)) => eprintln!(rt; "spie: line {number}: {}", sentence(why)),
+        None => eprintln!(rt; "spie: the input is refused"),
+    }
+}
+
+/// Says how a run ended; nothing where it is done. `front` is how its output begins. What can't be said on standard
+/// error is lost, since there is no other place for it.
+pub fn explain(rt: &HostRuntime, status: Status, front: &[u8]) -> std::io::Result<()> {
+    match status {
+        Status::Done | Status::No => Ok(()),
+        Status::Usage => eprintln!(rt; "{USAGE}"),
+        Status::TraceRefused => refusal(rt, front),
+        Status::ReadFault => eprintln!(rt; "spie: the input can't be read; nothing was written"),
+        Status::WriteFault => eprintln!(rt;
+            "spie: the output can't be written; what was written is not whole"
+        ),
+        Status::NoMemory => eprintln!(rt; "spie: no memory; nothing was written"),
+    }
+}
