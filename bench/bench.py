@@ -74,6 +74,22 @@ def rotations(out, count):
     out.write("query r0 0 0\nend\n")
 
 
+def changes(out, records, word="xf"):
+    """Transforms of 30,000 packets into as many others at four routers, or the same as records, and 256 queries."""
+    front(out, 4)
+    for number in range(60000):
+        out.write("packet %s\n" % packet(number))
+    for number in range(records):
+        new = number % 30000
+        if word == "xf":
+            out.write("xf r%d nat %d %d\n" % (number % 4, 30000 + number * 7 % 30000, new))
+        else:
+            out.write("fwd r%d %d\n" % (number % 4, new))
+    for number in range(256):
+        out.write("query r%d %d 0\n" % (number % 4, number))
+    out.write("end\n")
+
+
 def chains(out, queries):
     """Packets that every router of the line forwarded, and a query for each at the last."""
     front(out)
@@ -118,6 +134,7 @@ def main():
     print("%-16s %9s %10s %8s %8s %6s %10s %6s" % ("input", "lines", "bytes", "spie", "sha256", "ratio", "peak", "B/line"))
     cases = [("fwd 10^%d" % power, forwards, 10 ** power) for power in (4, 5, 6)]
     cases += [("ticks 10^6", ticks, 10 ** 6), ("watches 10^6", watches, 10 ** 6), ("rotations 4096", rotations, 4096)]
+    cases += [("xf 10^%d" % power, changes, 10 ** power) for power in (4, 5, 6)]
     cases += [("queries %d" % count, chains, count) for count in (16, 64, 256)]
     with tempfile.TemporaryDirectory() as folder:
         for name, make, count in cases:
