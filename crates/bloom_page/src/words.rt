@@ -1,4 +1,3 @@
-// Bits of words.
 ghost use Rattle.std.specs.Prelude.{◌≡◌, ◌≤◌, ◌<◌, ◌-◌, ◌*◌, ◌^◌, All, IfOk, length, replicate, take};
 ghost use Rattle.std.specs.List.{list_all};
 ghost use Rattle.bloom_page.specs.Bits.{is_set, members_of, with_bits};

@@ -1,4 +1,3 @@
-// The hash functions of a page.
 ghost use Rattle.std.specs.Prelude.{◌≡◌, ◌≤◌, ◌<◌, ◌^◌, ◌/◌, ◌-◌, All, map, take};
 ghost use Rattle.std.specs.List.{range_with_len};
 ghost use Rattle.hash_family.specs.Positions.{sig_word, positions_by, placed_by};

@@ -1,4 +1,3 @@
-// Numbered chains over the same places.
 ghost use Rattle.std.specs.Prelude.{◌≡◌, ◌≢◌, ℕ, ◌<◌, ◌≤◌, ◌+◌, List, [], ◌∷◌, ◌++◌, length, Option, Some, None, IfOk, OnOk, OnErr, slice_index};
 ghost use Rattle.index_rings.specs.Rings.{next_of, Lacks, Distinct, without, first_or};
 ghost use Rattle.index_rings.specs.Walk.{places_left};

@@ -1,4 +1,3 @@
-// What a store holds under an id.
 use spie_base::Sig;
 
 /// A signature, and how many uses it has.

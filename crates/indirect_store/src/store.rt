@@ -1,4 +1,3 @@
-// The store of old signatures.
 ghost use Rattle.std.specs.Prelude.{◌≡◌, ◌≢◌, ◌<◌, ◌+◌, ◌^◌, ℕ, [], IfOk, IfSome, IfNone, IsSome, OnOk, OnErr, Some, None, count_by, is_some};
 ghost use Rattle.spie_base.specs.declared.Sig.{Sig};
 ghost use Rattle.indirect_store.specs.Held.{held_at, sig_at, one_more, one_fewer, ChangesOnly, AreDifferent, AreUsed};

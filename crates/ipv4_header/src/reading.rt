@@ -1,4 +1,3 @@
-// Reading a header.
 ghost use Rattle.std.specs.Prelude.{◌≡◌, ◌≤◌, ◌+◌, ◌-◌, ◌++◌, length, replicate, Some, None, IfOk, IfErr, OnOk};
 ghost use Rattle.ipv4_header.specs.Grammar.{header_in, header_length_of, refusal_of, total_length_of};
 

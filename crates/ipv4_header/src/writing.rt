@@ -1,4 +1,3 @@
-// Writing a header.
 ghost use Rattle.std.specs.Prelude.{◌≡◌, ◌≤◌, ◌<◌, ◌+◌, ◌-◌, ◌++◌, ◌%◌, ◌^◌, take, drop, replicate, None};
 ghost use Rattle.byteorder.specs.Endian.{big_bytes};
 ghost use Rattle.ipv4_header.specs.Grammar.{header_in, refusal_of};

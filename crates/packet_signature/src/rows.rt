@@ -1,4 +1,3 @@
-// What a router keeps of a transform.
 use spie_base::Sig;
 
 /// How a router transforms a packet.

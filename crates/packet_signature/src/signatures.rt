@@ -1,4 +1,3 @@
-// The signature of a packet.
 ghost use Rattle.std.specs.Prelude.{◌≡◌, ◌≤◌, ◌++◌, length, map, slice_index, Some, None, IfOk, IfErr, OnOk};
 ghost use Rattle.ipv4_header.specs.Grammar.{refusal_of};
 ghost use Rattle.std.specs.List.{range_with_len};

@@ -1,4 +1,3 @@
-// Making the row of a transform.
 ghost use Rattle.std.specs.Prelude.{◌≡◌, ◌↔◌, length, IsSome, IfSome};
 ghost use Rattle.packet_signature.specs.Row.{agree, data_of, fragment_bytes, inverse_of, key_of, other_bytes, restored, row_of, with_fragment_bytes};
 

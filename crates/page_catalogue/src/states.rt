@@ -1,4 +1,3 @@
-// Plain values about pages.
 ghost use Rattle.std.specs.Prelude.{◌≡◌, ◌⊎◌};
 ghost use Rattle.page_catalogue.specs.declared.states.PageState.TheVariants.{Resident, Shelved};
 

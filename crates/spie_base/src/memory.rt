@@ -60,7 +60,7 @@ impl MemSource {
     }
 }
 
-// Moves the front of the bytes into the front of the buffer, as many as fit and at most `step`.
+// Moves the first bytes to the beginning of the buffer, as many as fit and at most `step`.
 fn move_front(bytes: &[u8], buf: &mut [u8], step: usize) -> usize
     ensures count { result ≡ min (min (length buf.old) step) (length bytes.now) }
     ensures moved { take result buf.new ≡ take result bytes.now }
@@ -150,7 +150,7 @@ impl MemSink {
     }
 }
 
-// Puts the front of the piece behind what is used, as much as fits and at most `step`.
+// Puts the first bytes of the piece behind what is used, as many as fit and at most `step`.
 fn put_behind(cells: &mut [u8], used: usize, piece: &[u8], step: usize) -> usize
     requires { used ≤ length cells.old }
     ensures count { result ≡ min (min (length piece.now) step) (length cells.old - used) }

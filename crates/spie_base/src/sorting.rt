@@ -1,4 +1,3 @@
-// Lists in ascending order.
 ghost use Rattle.std.specs.Prelude.{◌≡◌, true, ◌↔◌};
 ghost use Rattle.std.specs.List.{Contains};
 ghost use Rattle.std.specs.List.Sorted.{IsStrictlySortedBy};

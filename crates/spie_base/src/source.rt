@@ -14,8 +14,8 @@ pub trait Source {
     /// How many takes have failed, as far as the source can count.
     ghost faults: { Self → ℕ };
 
-    /// Moves the bytes that are left first into the front of the buffer, and says how many. 0 for a
-    /// buffer with room means that nothing is left.
+    /// Moves the next bytes to the beginning of the buffer, and says how many. 0 for a buffer with room
+    /// means that nothing is left.
     fn take(&mut self, buf: &mut [u8]) -> Result<usize, ReadFailed>
         ensures bound { ReadsAtMost result buf.new }
         ensures bytes { ReadConsumes (left self.old) (left self.new) result buf.new }

@@ -1,4 +1,3 @@
-// How a run ended.
 ghost use Rattle.std.specs.Prelude.{◌≡◌};
 ghost use Rattle.spie_base.specs.Status.{code_of};
 
@@ -7,15 +6,15 @@ ghost use Rattle.spie_base.specs.Status.{code_of};
 pub enum Status {
     /// The output is written whole.
     Done,
-    /// A certificate was read, and it does not hold.
+    /// A certificate was read, and does not hold. No command of today ends so.
     No,
-    /// The words are none of the program's forms.
+    /// Unknown command or wrong arguments. Nothing was read and nothing written.
     Usage,
-    /// The input was read, and it is refused.
+    /// The input was read and breaks a rule of its format. The refusal is the output.
     TraceRefused,
-    /// The source failed.
+    /// An I/O error while reading. Nothing was written.
     ReadFault,
-    /// The sink failed, and a front of the output stands.
+    /// An I/O error while writing. A prefix of the output was written.
     WriteFault,
     /// Memory was refused.
     NoMemory,

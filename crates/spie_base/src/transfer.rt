@@ -1,4 +1,4 @@
-// Whole inputs and whole outputs.
+// Whole inputs and whole outputs, over the single calls of a source and a sink.
 ghost use Rattle.std.specs.Prelude.{◌≤◌, OnOk, OnErr};
 ghost use Rattle.std.specs.Io.KnownBytes.{Appends};
 ghost use Rattle.spie_base.specs.Causes.{HasCause, HasReadCause};
@@ -37,7 +37,7 @@ pub fn read_all<S: Source>(
     }
 }
 
-/// Appends all the bytes, and takes no memory. After an `Err` a front of them stands.
+/// Appends all the bytes, and takes no memory. After an `Err` a prefix of them was appended.
 pub fn write_all<K: Sink>(sink: &mut K, bytes: &[u8]) -> Result<(), WriteFailed>
     ensures whole { OnOk result (Appends (K.written sink.old) (K.written sink.new) bytes.now) }
     ensures front { OnErr result (AppendsFront (K.written sink.old) (K.written sink.new) bytes.now) }

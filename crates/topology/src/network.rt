@@ -1,4 +1,3 @@
-// Routers, regions and links.
 ghost use Rattle.std.specs.Prelude.{◌≡◌, ℕ, ◌<◌, ◌↔◌, None, Some, IfSome, IfOk, OnOk, IfErr, OnErr, IsOkAnd, IsTrue, length, slice_get, slice_index};
 ghost use Rattle.std.specs.List.{Contains};
 ghost use Rattle.std.specs.List.Sorted.{IsStrictlySortedBy};

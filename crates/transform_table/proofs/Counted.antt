@@ -19,7 +19,7 @@ use Rattle.transform_table.specs.declared.line.Kept.{Kept}
 use Rattle.transform_table.specs.declared.line.Kept.TheVariants.{Bytes, Id}
 use Rattle.transform_table.specs.Tables.{has_key, is_of_page, with_key, without_page}
 use Rattle.transform_table.specs.Rows.{sig_or_none, data_of, pair_of, pair_at, is_id, keeps_id, one_if, uses_by, AreHeld}
-use Rattle.transform_table.specs.Stands.{page_of, page_at, bucket_of, bucket_at}
+use Rattle.transform_table.specs.Chained.{page_of, page_at, bucket_of, bucket_at}
 use Rattle.transform_table.proofs.Gathered.{Has, gathered_same, gathered_filter, gathered_part, gathered_without, gathered_length, filter_whole, passing_same, passing_more, passing_without, passing_some}
 
 -- each id's use count is the number of rows that keep it

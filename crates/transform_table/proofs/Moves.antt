@@ -12,13 +12,13 @@ use Rattle.index_rings.proofs.Walks.{walked_chain}
 use Rattle.indirect_store.proofs.Keys.{keys_more, keys_fewer, holds_more, holds_fewer, Appends, TakesOut}
 use Rattle.transform_table.specs.declared.line.Line.{Line}
 use Rattle.transform_table.specs.Rows.{order_in}
-use Rattle.transform_table.specs.Stands.{page_of, bucket_of, page_at, bucket_at, in_all, Stands}
+use Rattle.transform_table.specs.Chained.{page_of, bucket_of, page_at, bucket_at, in_all, AreChained}
 
 pub stands_more : (rows rows' : Slab Line) (all all' buckets buckets' pages pages' : Chains) (order : List ℕ) (i : ℕ) (line : Line)
     → get rows i ≡ None → Updates rows rows' i (Some line) → slab_len rows' ≡ slab_len rows + 1 → line.page.number < chains_in pages
     → Appends all all' 0 i → Appends buckets buckets' (line.key % 1024) i → Appends pages pages' line.page.number i
     → chains_in all' ≡ chains_in all → chains_in buckets' ≡ chains_in buckets → chains_in pages' ≡ chains_in pages
-    → Stands rows all buckets pages order → Stands rows' all' buckets' pages' (order ++ i ∷ [])
+    → AreChained rows all buckets pages order → AreChained rows' all' buckets' pages' (order ++ i ∷ [])
 stands_more rows rows' all all' buckets buckets' pages pages' order i line vacant up len room fa fb fp la lb lp was =
     let distinct = was.listed.distinct in let lacks = was.listed.held i vacant in
     record {
@@ -38,7 +38,7 @@ pub stands_fewer : (rows rows' : Slab Line) (all all' buckets buckets' pages pag
     → get rows i ≡ Some line → Updates rows rows' i None → slab_len rows' + 1 ≡ slab_len rows
     → TakesOut all all' 0 i → TakesOut buckets buckets' (line.key % 1024) i → TakesOut pages pages' line.page.number i
     → chains_in all' ≡ chains_in all → chains_in buckets' ≡ chains_in buckets → chains_in pages' ≡ chains_in pages
-    → Stands rows all buckets pages order → Stands rows' all' buckets' pages' (without i order)
+    → AreChained rows all buckets pages order → AreChained rows' all' buckets' pages' (without i order)
 stands_fewer rows rows' all all' buckets buckets' pages pages' order i line found up len fa fb fp la lb lp was =
     let distinct = was.listed.distinct in
     let there : get rows i ≢ None = λ e. let bad : Some line ≡ None = sym found ∙ e in (cc) in
@@ -68,13 +68,13 @@ walks : (next : ℕ → ℕ) (n : ℕ) (first : Option ℕ) (xs : List ℕ) → 
 walks next n None xs h r = sym (chain_none next xs r)
 walks next n (Some f) xs h r = walked_chain next (Some f) f xs n h.0 r (λ g e. let same : f ≡ g = cc in same) h.1
 
-pub order_is : (rows : Slab Line) (all buckets pages : Chains) (order : List ℕ) → Stands rows all buckets pages order → order_in rows all ≡ order
+pub order_is : (rows : Slab Line) (all buckets pages : Chains) (order : List ℕ) → AreChained rows all buckets pages order → order_in rows all ≡ order
 order_is rows all buckets pages order s =
     let next = next_of all.rings.links.items in
     walks next (slab_len rows) (first_in all 0) order (s.listed.distinct, omega (arith, s.listed.count)) (subst (λ ys. IsChain next (first_in all 0) ys) (all_labelled order) (s.in_one.chains.parts 0))
 
 -- the first place of a page's chain has a row, and of that page
-pub first_is : (rows : Slab Line) (all buckets pages : Chains) (order : List ℕ) (page place : ℕ) → Stands rows all buckets pages order → first_in pages page ≡ Some place → (Lacks order place → ⊥) × (page_at rows place ≡ page)
+pub first_is : (rows : Slab Line) (all buckets pages : Chains) (order : List ℕ) (page place : ℕ) → AreChained rows all buckets pages order → first_in pages page ≡ Some place → (Lacks order place → ⊥) × (page_at rows place ≡ page)
 first_is rows all buckets pages order page place s e =
     let next = next_of pages.rings.links.items in
     let r : IsChain next (Some place) (labelled (page_at rows) page order) = subst (λ o. IsChain next o (labelled (page_at rows) page order)) e (s.in_pages.chains.parts page) in (
@@ -86,7 +86,7 @@ first_is rows all buckets pages order page place s e =
     )
 
 -- a page whose chain is empty has no row
-pub none_of_page : (rows : Slab Line) (all buckets pages : Chains) (order : List ℕ) (page : ℕ) → Stands rows all buckets pages order → first_in pages page ≡ None → labelled (page_at rows) page order ≡ []
+pub none_of_page : (rows : Slab Line) (all buckets pages : Chains) (order : List ℕ) (page : ℕ) → AreChained rows all buckets pages order → first_in pages page ≡ None → labelled (page_at rows) page order ≡ []
 none_of_page rows all buckets pages order page s e =
     let next = next_of pages.rings.links.items in
     chain_none next (labelled (page_at rows) page order) (subst (λ o. IsChain next o (labelled (page_at rows) page order)) e (s.in_pages.chains.parts page))

@@ -21,7 +21,7 @@ use Rattle.transform_table.specs.declared.line.Kept.{Kept}
 use Rattle.transform_table.specs.declared.line.Kept.TheVariants.{Bytes, Id}
 use Rattle.transform_table.specs.Tables.{old_in, olds_in, same_sig, different_olds}
 use Rattle.transform_table.specs.Rows.{sig_or_none, data_of, pair_of, pair_at, pairs_in, is_id, keeps_id}
-use Rattle.transform_table.specs.Stands.{IsTable}
+use Rattle.transform_table.specs.Chained.{IsTable}
 use Rattle.transform_table.proofs.Gathered.{Has, has_head, has_tail, passing_one}
 use Rattle.transform_table.proofs.Tabled.{shown_is, ids_held}
 

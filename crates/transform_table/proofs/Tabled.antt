@@ -13,7 +13,7 @@ use Rattle.packet_signature.specs.declared.rows.Row.{Row}
 use Rattle.transform_table.specs.declared.line.Line.{Line}
 use Rattle.transform_table.specs.Tables.{with_key, rows_of_page, without_page}
 use Rattle.transform_table.specs.Rows.{pair_of, pair_at, pairs_in, is_id, one_if, AreHeld}
-use Rattle.transform_table.specs.Stands.{Stands, IsTable, page_at, bucket_at}
+use Rattle.transform_table.specs.Chained.{AreChained, IsTable, page_at, bucket_at}
 use Rattle.transform_table.proofs.Moves.{order_is, first_is, none_of_page}
 use Rattle.transform_table.proofs.Counted.{AreCounted, are_held, pairs_more, counted_more, pairs_fewer, counted_fewer, page_fewer, all_shown, page_part, page_none, key_part}
 
@@ -50,7 +50,7 @@ module _ (rows : Slab Line) (all buckets pages : Chains) (olds : List (Option He
 
   module _ (rows' : Slab Line) (all' buckets' pages' : Chains) where
     -- more room
-    module _ (more : ℕ) (e : rows' ≡ record rows { capacity = more }) (keeps : (order : List ℕ) → Stands rows all buckets pages order → Stands rows' all' buckets' pages' order) where
+    module _ (more : ℕ) (e : rows' ≡ record rows { capacity = more }) (keeps : (order : List ℕ) → AreChained rows all buckets pages order → AreChained rows' all' buckets' pages' order) where
       pub table_roomier : IsTable rows' all' buckets' pages' olds
       table_roomier = record {
         order = was.order;
@@ -65,7 +65,7 @@ module _ (rows : Slab Line) (all buckets pages : Chains) (olds : List (Option He
 
     -- one row more
     module _ (olds' : List (Option Held)) (i : ℕ) (line : Line) (vacant : get rows i ≡ None) (up : Updates rows rows' i (Some line))
-        (stands : (order : List ℕ) → Stands rows all buckets pages order → Stands rows' all' buckets' pages' (order ++ i ∷ []))
+        (stands : (order : List ℕ) → AreChained rows all buckets pages order → AreChained rows' all' buckets' pages' (order ++ i ∷ []))
         (uses : (id : ℕ) → uses_at olds' id ≡ uses_at olds id + one_if (is_id id line.kept)) (others : (id : ℕ) → uses_at olds id ≢ 0 → sig_at olds' id ≡ sig_at olds id) where
       pub table_more : IsTable rows' all' buckets' pages' olds'
       table_more = record {
@@ -81,7 +81,7 @@ module _ (rows : Slab Line) (all buckets pages : Chains) (olds : List (Option He
 
     -- the first row of a page fewer
     module _ (olds' : List (Option Held)) (page i : ℕ) (line : Line) (first : first_in pages page ≡ Some i) (found : get rows i ≡ Some line) (up : Updates rows rows' i None)
-        (stands : (order : List ℕ) → Stands rows all buckets pages order → Stands rows' all' buckets' pages' (without i order))
+        (stands : (order : List ℕ) → AreChained rows all buckets pages order → AreChained rows' all' buckets' pages' (without i order))
         (uses : (id : ℕ) → uses_at olds' id ≡ uses_at olds id - one_if (is_id id line.kept)) (others : (id : ℕ) → uses_at olds' id ≢ 0 → sig_at olds' id ≡ sig_at olds id) where
       pub table_fewer : IsTable rows' all' buckets' pages' olds'
       table_fewer = record {

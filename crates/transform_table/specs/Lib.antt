@@ -1,3 +1,3 @@
 pub mod Tables
 pub mod Rows
-pub mod Stands
+pub mod Chained

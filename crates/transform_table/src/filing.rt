@@ -3,7 +3,7 @@ ghost use Rattle.std.specs.Prelude.{◌≡◌, ◌≢◌, ℕ, ◌<◌, ◌≤�
 ghost use Rattle.slab.specs.Slab.{get, slab_len, HasRoomFor, Updates};
 ghost use Rattle.index_rings.specs.Rings.{Lacks, without};
 ghost use Rattle.index_rings.specs.Orders.{chains_in, places_in, first_in, Holds};
-ghost use Rattle.transform_table.specs.Stands.{Stands, HasRoom};
+ghost use Rattle.transform_table.specs.Chained.{AreChained, HasRoom};
 
 use crate::line::Line;
 use index_rings::Chains;
@@ -25,7 +25,7 @@ pub const BUCKETS: usize = 1_024;
 
 /// No rows.
 pub fn empty(alloc: Global) -> Result<Filing, NoMemory>
-    ensures { IfOk result (λ f. Stands f.rows f.all f.buckets f.pages []) }
+    ensures { IfOk result (λ f. AreChained f.rows f.all f.buckets f.pages []) }
 {
     Ok(Filing {
         rows: Slab::new(alloc),
@@ -40,8 +40,8 @@ pub fn make_room(filing: &mut Filing, page: PageNo) -> Result<(), NoMemory>
     ensures room { OnOk result
         (HasRoom filing.new.rows filing.new.all filing.new.buckets filing.new.pages page.number) }
     ensures slots { filing.new.rows ≡ record filing.old.rows { capacity = filing.new.rows.capacity } }
-    ensures stands { (order : List ℕ) → Stands filing.old.rows filing.old.all filing.old.buckets filing.old.pages order
-        → Stands filing.new.rows filing.new.all filing.new.buckets filing.new.pages order }
+    ensures stands { (order : List ℕ) → AreChained filing.old.rows filing.old.all filing.old.buckets filing.old.pages order
+        → AreChained filing.new.rows filing.new.all filing.new.buckets filing.new.pages order }
 {
     filing.rows.reserve(1)?;
     let place = filing.rows.vacant_key();
@@ -79,11 +79,11 @@ pub fn first_of(filing: &Filing, page: PageNo) -> Option<usize>
 pub fn insert(filing: &mut Filing, line: Line) -> usize
     requires room { HasRoom filing.old.rows filing.old.all filing.old.buckets filing.old.pages line.page.number }
     requires stands { (order : List ℕ)
-        × Stands filing.old.rows filing.old.all filing.old.buckets filing.old.pages order }
+        × AreChained filing.old.rows filing.old.all filing.old.buckets filing.old.pages order }
     ensures row { Updates filing.old.rows filing.new.rows result (Some line) }
     ensures vacant { get filing.old.rows result ≡ None }
-    ensures stands { (order : List ℕ) → Stands filing.old.rows filing.old.all filing.old.buckets filing.old.pages order
-        → Stands filing.new.rows filing.new.all filing.new.buckets filing.new.pages (order ++ result ∷ []) }
+    ensures stands { (order : List ℕ) → AreChained filing.old.rows filing.old.all filing.old.buckets filing.old.pages order
+        → AreChained filing.new.rows filing.new.all filing.new.buckets filing.new.pages (order ++ result ∷ []) }
 {
     let place = filing.rows.insert_reserved(line);
     let bucket = (line.key % BUCKETS as u64) as usize;
@@ -96,12 +96,12 @@ pub fn insert(filing: &mut Filing, line: Line) -> usize
 
 /// Takes a row out of its three chains.
 pub fn remove(filing: &mut Filing, place: usize) -> Line
-    requires stands { (order : List ℕ) × Stands filing.old.rows filing.old.all filing.old.buckets filing.old.pages order
+    requires stands { (order : List ℕ) × AreChained filing.old.rows filing.old.all filing.old.buckets filing.old.pages order
         × (Lacks order place → ⊥) }
     ensures row { get filing.old.rows place ≡ Some result }
     ensures rows { Updates filing.old.rows filing.new.rows place None }
-    ensures stands { (order : List ℕ) → Stands filing.old.rows filing.old.all filing.old.buckets filing.old.pages order
-        → Stands filing.new.rows filing.new.all filing.new.buckets filing.new.pages (without place order) }
+    ensures stands { (order : List ℕ) → AreChained filing.old.rows filing.old.all filing.old.buckets filing.old.pages order
+        → AreChained filing.new.rows filing.new.all filing.new.buckets filing.new.pages (without place order) }
 {
     let line = filing.rows.remove(place);
     let bucket = (line.key % BUCKETS as u64) as usize;

@@ -1,4 +1,3 @@
-// The rows of a key, one after the other.
 ghost use Rattle.std.specs.Iterator.{item_count, YieldsFirst};
 
 use crate::line::Line;

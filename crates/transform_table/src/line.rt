@@ -1,4 +1,3 @@
-// A row as the table keeps it.
 use packet_signature::Kind;
 use spie_base::PageNo;
 

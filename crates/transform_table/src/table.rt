@@ -1,4 +1,3 @@
-// The table of a router's transforms.
 ghost use Rattle.std.specs.Prelude.{◌≡◌, ◌+◌, [], ◌∷◌, ◌++◌, length, IfOk, OnOk, OnErr};
 ghost use Rattle.std.specs.Bool.{OnTrue, OnFalse};
 ghost use Rattle.std.specs.List.{list_any};
@@ -26,7 +25,7 @@ impl Model for Table {
     ghost use Rattle.spie_base.specs.declared.types.PageNo.{PageNo};
     ghost use Rattle.packet_signature.specs.declared.rows.Row.{Row};
     ghost use Rattle.transform_table.specs.Rows.{pairs_in};
-    ghost use Rattle.transform_table.specs.Stands.{IsTable};
+    ghost use Rattle.transform_table.specs.Chained.{IsTable};
 
     ghost Value = { List (PageNo × Row) };
 

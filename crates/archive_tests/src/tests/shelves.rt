@@ -61,6 +61,39 @@ fn folder(rt: HostRuntime) -> Result<(), Fail> {
     Ok(())
 }
 
+// A file that others cut short or replaced is got as it stands, and a folder that is a file can't be written.
+#[test]
+fn files_changed_by_others(rt: HostRuntime) -> Result<(), Fail> {
+    let alloc = rt.alloc();
+    let _ = fs::remove_dir_all(&rt, "shelf_of_changed_files");
+    fs::create_dir(&rt, "shelf_of_changed_files")?;
+    let bits = name(0, 1, ShelfPart::Bits);
+    let mut shelf = FolderShelf::new(alloc, &rt, "shelf_of_changed_files")?;
+    assert_eq!(rt; shelf.put(alloc, &bits, &[1, 2, 3]), Ok(()));
+    fs::write(
+        &rt,
+        "shelf_of_changed_files/00000000-00000001.bits",
+        b"\x01\x02",
+    )?;
+    match shelf.get(alloc, &bits, 3) {
+        Ok(Some(got)) => assert_eq!(rt; got.as_slice(), [1, 2].as_slice()),
+        _ => assert!(rt; false),
+    }
+    fs::write(
+        &rt,
+        "shelf_of_changed_files/00000000-00000001.bits",
+        b"\x04\x05\x06",
+    )?;
+    match shelf.get(alloc, &bits, 3) {
+        Ok(Some(got)) => assert_eq!(rt; got.as_slice(), [4, 5, 6].as_slice()),
+        _ => assert!(rt; false),
+    }
+    let mut file = FolderShelf::new(alloc, &rt, "shelf_of_changed_files/00000000-00000001.bits")?;
+    assert_eq!(rt; file.put(alloc, &bits, &[7]), Err(ShelfRefused::Failed));
+    fs::remove_dir_all(&rt, "shelf_of_changed_files")?;
+    Ok(())
+}
+
 // A folder of a record's name is no file.
 #[test]
 fn a_folder_in_the_place_of_a_file(rt: HostRuntime) -> Result<(), Fail> {

@@ -1,6 +1,6 @@
 use Rattle.std.proofs.Common.{◌≡◌, [], ◌∷◌, ◌++◌, sym, ap, ◌∙◌, subst}
 use Rattle.transform_table.specs.Rows.{pairs_in}
-use Rattle.transform_table.specs.Stands.{IsTable}
+use Rattle.transform_table.specs.Chained.{IsTable}
 use Rattle.transform_table.proofs.Tabled.{on_err, table_roomier, shown_roomier, table_more, shown_more}
 use Rattle.transform_table.proofs.table.Table.add.Goals as goal
 

@@ -1,6 +1,6 @@
 use Rattle.std.proofs.Common.{◌∙◌, ap, arith}
 use Rattle.transform_table.specs.Tables.{with_key}
-use Rattle.transform_table.specs.Stands.{bucket_at}
+use Rattle.transform_table.specs.Chained.{bucket_at}
 use Rattle.transform_table.proofs.Tabled.{ids_held, key_chain}
 use Rattle.transform_table.proofs.table.Table.find.Goals as goal
 

@@ -2,7 +2,7 @@ use Rattle.std.proofs.Common.{◌≡◌, None, IfOk, ◌∙◌, ap, subst, arith
 use Rattle.std.proofs.lemmas.List.{get_or_past}
 use Rattle.index_rings.specs.Orders.{first_in}
 use Rattle.transform_table.specs.Tables.{rows_of_page}
-use Rattle.transform_table.specs.Stands.{page_at}
+use Rattle.transform_table.specs.Chained.{page_at}
 use Rattle.transform_table.proofs.Tabled.{ids_held, page_chain, no_page_chain}
 use Rattle.transform_table.proofs.table.Table.rows_of.Goals as goal
 

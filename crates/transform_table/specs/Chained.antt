@@ -30,7 +30,7 @@ in_all place = 0
 
 -- the rows stand at these places, in this order: each once in the chain of all rows, and the chain of each bucket and
 -- of each page is the part of it with that bucket or that page
-pub record Stands (rows : Slab Line) (all buckets pages : Chains) (order : List ℕ) : Type 0 where
+pub record AreChained (rows : Slab Line) (all buckets pages : Chains) (order : List ℕ) : Type 0 where
   pub listed : ListsKeys rows order
   pub in_one : Holds all in_all order
   pub in_buckets : Holds buckets (bucket_at rows) order
@@ -50,5 +50,5 @@ pub record HasRoom (rows : Slab Line) (all buckets pages : Chains) (page : ℕ) 
 -- the rows stand in their chains, and each id's use count is the number of rows that keep it
 pub record IsTable (rows : Slab Line) (all buckets pages : Chains) (olds : List (Option Held)) : Type 0 where
   pub order : List ℕ
-  pub stands : Stands rows all buckets pages order
+  pub stands : AreChained rows all buckets pages order
   pub counted : (id : ℕ) → uses_at olds id ≡ uses_by rows order id
