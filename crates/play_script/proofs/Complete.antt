@@ -2,7 +2,7 @@
 use Rattle.std.proofs.Common.{ℕ, ◌≡◌, List, [], ◌∷◌, length, refl, ap, sym, ◌∙◌, Ok, true, false, nat_lt}
 use Rattle.spie_base.proofs.Bounds.{within}
 use Rattle.trace_format.specs.Limits.{most_bytes}
-use Rattle.trace_format.specs.Text.{lines}
+use Rattle.line_text.specs.Text.{lines}
 use Rattle.play_script.proofs.SoundLines.{narrow}
 use Rattle.play_script.proofs.Taken.{line_again}
 use Rattle.play_script.specs.Before.{known_of}

@@ -9,7 +9,7 @@ use Rattle.trace_format.specs.Limits.{most_line_bytes}
 use Rattle.play_script.specs.Limits.{most_steps}
 use Rattle.trace_format.specs.Outcomes.{◌>>=◌}
 use Rattle.trace_format.specs.Reading.{number}
-use Rattle.trace_format.specs.Text.{fields}
+use Rattle.line_text.specs.Text.{fields}
 use Rattle.trace_format.specs.declared.refused.WhyRefused.{WhyRefused}
 use Rattle.play_script.specs.Before.{Known}
 use Rattle.play_script.specs.Reading.{shape_in, step_in, word_of, grown, version_rest, version_line, core_fields, core_rest, core_line, pushed, by_word, end_line, step_line, line_at, read_line}

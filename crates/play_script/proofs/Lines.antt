@@ -2,9 +2,9 @@
 use Rattle.std.proofs.Common.{ℕ, ◌≡◌, ◌+◌, List, [], ◌∷◌, refl, rules, Ok, Err, true, false, cond}
 use Rattle.play_script.specs.Before.{Known}
 use Rattle.play_script.specs.Reading.{read_line, read_lines, refused, then_read}
-use Rattle.trace_format.specs.Text.{lines, HasCut}
+use Rattle.line_text.specs.Text.{lines, HasCut}
 use Rattle.play_script.specs.Words.{is_over}
-use Rattle.trace_format.proofs.Lines.{Parts, some_part}
+use Rattle.line_text.proofs.Parts.{Parts, some_part}
 use Rattle.trace_format.specs.Outcomes.{Fails, Ends, stopped}
 use Rattle.trace_format.specs.declared.refused.WhyRefused.TheVariants as why
 use Rattle.trace_format.specs.declared.steps.Stop.{Stop}

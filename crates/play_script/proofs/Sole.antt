@@ -3,7 +3,7 @@ use Rattle.std.proofs.Common.{ℕ, ◌≡◌, ◌≤◌, ◌<◌, inl, inr, List
 use Rattle.spie_base.proofs.Bounds.{past, within, some_items}
 use Rattle.trace_format.specs.Fault.{LastBreaks}
 use Rattle.trace_format.specs.Limits.{most_bytes, most_line_bytes}
-use Rattle.trace_format.specs.Text.{lines, fields}
+use Rattle.line_text.specs.Text.{lines, fields}
 use Rattle.trace_format.specs.declared.refused.TraceRefused.{TraceRefused}
 use Rattle.trace_format.specs.declared.refused.WhyRefused.{WhyRefused}
 use Rattle.trace_format.specs.declared.refused.WhyRefused.TheVariants as why

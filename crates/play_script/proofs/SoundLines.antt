@@ -18,7 +18,7 @@ use Rattle.gate_core.specs.declared.steps.Actor.TheVariants as actor
 use Rattle.gate_core.specs.declared.steps.Step.{Step}
 use Rattle.spie_base.specs.declared.types.PageShape.{PageShape}
 use Rattle.play_script.specs.Limits.{most_steps, IsCore}
-use Rattle.trace_format.specs.Text.{lines}
+use Rattle.line_text.specs.Text.{lines}
 use Rattle.play_script.proofs.Again.{IsNarrow}
 use Rattle.play_script.specs.Before.{script_of, shape_of, passes_of, steps_of}
 use Rattle.play_script.specs.Said.{Said}

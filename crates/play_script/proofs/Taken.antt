@@ -2,7 +2,7 @@
 use Rattle.std.proofs.Common.{ℕ, ◌≡◌, ◌≤◌, List, ◌∷◌, length, refl, ap, sym, ◌∙◌, Result, Ok, Err, Bool, true, false, cond, nat_lt}
 use Rattle.spie_base.proofs.Bounds.{is_past, within, is_within}
 use Rattle.trace_format.specs.Limits.{most_line_bytes}
-use Rattle.trace_format.specs.Text.{fields}
+use Rattle.line_text.specs.Text.{fields}
 use Rattle.trace_format.specs.declared.refused.WhyRefused.{WhyRefused}
 use Rattle.trace_format.specs.declared.refused.WhyRefused.TheVariants as why
 use Rattle.play_script.proofs.Again.{IsNarrow, spelled_reads, taken}

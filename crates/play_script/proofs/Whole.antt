@@ -1,10 +1,10 @@
 -- What is read is a script, and what is refused has this fault first.
 use Rattle.std.proofs.Common.{ℕ, ◌≡◌, ◌+◌, ◌≤◌, inl, inr, List, [], ◌∷◌, length, refl, ap, sym, subst, Result, Ok, Err, Bool, true, false, cond, ◌==◌, nat_lt}
 use Rattle.spie_base.proofs.Bounds.{is_past, is_within, some_items}
-use Rattle.trace_format.proofs.Lines.{some_part}
+use Rattle.line_text.proofs.Parts.{some_part}
 use Rattle.trace_format.specs.Fault.{too_long}
 use Rattle.trace_format.specs.Limits.{most_bytes}
-use Rattle.trace_format.specs.Text.{lines}
+use Rattle.line_text.specs.Text.{lines}
 use Rattle.trace_format.specs.declared.refused.TraceRefused.{TraceRefused}
 use Rattle.trace_format.specs.declared.refused.WhyRefused.{WhyRefused}
 use Rattle.trace_format.specs.declared.refused.WhyRefused.TheVariants as why

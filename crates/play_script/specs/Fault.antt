@@ -2,7 +2,7 @@
 use Rattle.std.specs.Prelude.{ℕ, ◌+◌, ◌≤◌, ◌<◌, ◌≡◌, ◌≢◌, ◌⊎◌, List, [], ◌∷◌, length, Bool, true, false, codes}
 use Rattle.trace_format.specs.Fault.{LastBreaks, too_long}
 use Rattle.trace_format.specs.Limits.{most_bytes, most_line_bytes}
-use Rattle.trace_format.specs.Text.{fields, lines}
+use Rattle.line_text.specs.Text.{fields, lines}
 use Rattle.trace_format.specs.declared.refused.TraceRefused.{TraceRefused}
 use Rattle.trace_format.specs.declared.refused.WhyRefused.{WhyRefused}
 use Rattle.trace_format.specs.declared.refused.WhyRefused.TheVariants as why

@@ -20,7 +20,7 @@ use Rattle.trace_format.specs.Limits.{most_bytes, most_line_bytes}
 use Rattle.play_script.specs.Limits.{most_steps}
 use Rattle.trace_format.specs.Outcomes.{◌>>=◌}
 use Rattle.trace_format.specs.Reading.{number, base_of}
-use Rattle.trace_format.specs.Text.{fields, lines}
+use Rattle.line_text.specs.Text.{fields, lines}
 use Rattle.trace_format.specs.declared.refused.TraceRefused.{TraceRefused}
 use Rattle.trace_format.specs.declared.refused.WhyRefused.{WhyRefused}
 use Rattle.trace_format.specs.declared.refused.WhyRefused.TheVariants as why

@@ -16,7 +16,7 @@ use Rattle.gate_core.specs.declared.states.SlotPhase.{SlotPhase}
 use Rattle.gate_core.specs.declared.states.SlotPhase.TheVariants.{Free, Open, Sealed, Quiet}
 use Rattle.gate_core.specs.declared.steps.StepAnswer.{StepAnswer}
 use Rattle.gate_core.specs.declared.steps.StepAnswer.TheVariants as answer
-use Rattle.report_text.specs.Report.{spaced, line_text, listed}
+use Rattle.line_text.specs.Writing.{spaced, line_text, listed}
 use Rattle.play_script.specs.declared.script.PlayScript.{PlayScript}
 
 abbrev pub pass_text : PassState → List ℕ

@@ -2,7 +2,7 @@
 use Rattle.std.specs.Prelude.{ℕ, ◌≤◌, ◌≡◌, List, [], ◌∷◌, length, Bool, true, false, nat_le}
 use Rattle.trace_format.specs.Limits.{most_bytes, most_line_bytes}
 use Rattle.play_script.specs.Limits.{most_steps}
-use Rattle.trace_format.specs.Text.{fields, lines}
+use Rattle.line_text.specs.Text.{fields, lines}
 use Rattle.play_script.specs.Before.{script_of}
 use Rattle.play_script.specs.Said.{Said}
 use Rattle.play_script.specs.Said as said

@@ -1,12 +1,12 @@
 // The answers to the steps, a line each.
 ghost use Rattle.std.specs.Prelude.{◌≡◌, ◌++◌, ◌∷◌, [], ◌+◌, ◌<◌, ◌^◌, OnOk, decimal, length, codes};
 ghost use Rattle.std.specs.List.{flat_map};
-ghost use Rattle.report_text.specs.Report.{spaced, line_text, listed};
+ghost use Rattle.line_text.specs.Writing.{spaced, line_text, listed};
 ghost use Rattle.play_script.specs.Report as texts;
 
 use gate_core::gate_word::page;
 use gate_core::{ActorState, PassState, SlotPhase, StepAnswer};
-use report_text::{push, push_counted, push_field, push_number, push_word};
+use line_text::{push, push_counted, push_field, push_number, push_word};
 use spie_base::NoMemory;
 
 fn pass_text(state: PassState) -> &'static [u8]

@@ -8,10 +8,11 @@ use crate::forms::{shape_in, step_in};
 use crate::script::PlayScript;
 use crate::words::{Stage, Word, word_of};
 use gate_core::{MOST_PASSES, Step};
+use line_text::split_into;
 use spie_base::{List, PageShape, RouterId};
 use std::alloc::Global;
 use std::marker::Model;
-use trace_format::{MOST_LINE_BYTES, Stop, WhyRefused, number, split_into};
+use trace_format::{MOST_LINE_BYTES, Stop, WhyRefused, number};
 
 const MOST_STEPS: usize = 100_000;
 

@@ -1,4 +1,3 @@
-// The forms of a script's fields.
 ghost use Rattle.std.specs.Prelude.{◌≡◌, ◌<◌, ◌≤◌, IfOk, map};
 ghost use Rattle.play_script.specs.declared.script.TheConstants.{CORE_N_MOST};
 ghost use Rattle.play_script.specs.Reading as reading;

@@ -3,12 +3,12 @@ ghost use Rattle.std.specs.Prelude.{◌≡◌, ◌++◌, ◌∷◌, [], ◌+◌,
 ghost use Rattle.std.specs.List.{flat_map, range_with_len};
 ghost use Rattle.gate_core.specs.Core.{duties_of};
 ghost use Rattle.spie_base.specs.declared.types.Entry.{Entry as AnEntry};
-ghost use Rattle.report_text.specs.Report.{spaced};
+ghost use Rattle.line_text.specs.Writing.{spaced};
 ghost use Rattle.play_script.specs.Report as texts;
 
 use crate::answers::phase_text;
 use gate_core::CoreState;
-use report_text::{push, push_count, push_field};
+use line_text::{push, push_count, push_field};
 use spie_base::{Entry, NoMemory, PageNo};
 use std::alloc::Global;
 

@@ -1,8 +1,7 @@
-// Reads the text of a script.
 ghost use Rattle.std.specs.Prelude.{◌∷◌, [], ◌<◌, ◌^◌, length, IfOk, Ok, Err};
 ghost use Rattle.trace_format.specs.Outcomes.{IsReadAs, RefusedWith};
 ghost use Rattle.trace_format.specs.Outcomes.{Reads};
-ghost use Rattle.trace_format.specs.Text.{lines};
+ghost use Rattle.line_text.specs.Text.{lines};
 ghost use Rattle.trace_format.specs.declared.refused.TraceRefused.{TraceRefused};
 ghost use Rattle.play_script.specs.Before.{known_of};
 ghost use Rattle.play_script.specs.Fault.{IsFault};
@@ -13,8 +12,9 @@ ghost use Rattle.play_script.specs.declared.script.PlayScript.{PlayScript};
 
 use crate::draft::Draft;
 use crate::script::PlayScript;
+use line_text::cut;
 use std::alloc::Global;
-use trace_format::{MOST_BYTES, ReadTraceRefused, Stop, WhyRefused, cut};
+use trace_format::{MOST_BYTES, ReadTraceRefused, Stop, WhyRefused};
 
 // What stands behind the last line end.
 #[tactic(auto, unfolding(crate::specs::Reading::read_lines))]

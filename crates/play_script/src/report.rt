@@ -7,7 +7,7 @@ use crate::answers::push_answers;
 use crate::pages::push_pages;
 use crate::script::PlayScript;
 use gate_core::Played;
-use report_text::push;
+use line_text::push;
 use spie_base::NoMemory;
 use std::alloc::Global;
 

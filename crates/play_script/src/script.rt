@@ -1,4 +1,3 @@
-// A script.
 use gate_core::Step;
 use spie_base::{List, PageShape};
 

@@ -5,7 +5,8 @@ use Rattle.std.specs.Fmt.{decimal}
 use Rattle.std.specs.List.{flat_map}
 use Rattle.report_text.specs.declared.items.Item.{Item}
 use Rattle.report_text.specs.declared.items.Item.TheVariants.{Head, Entered, Opened, Archived, Seen, NotSeen, Unknown, Tick, Closed, Left, Query, Pages, NodeLine, EdgeLine, UnknownLine, Answer, End}
-use Rattle.report_text.specs.Report.{item_text, spaced, name_of, page_text, pages_text, range_text, bad_text, pair}
+use Rattle.line_text.specs.Writing.{spaced}
+use Rattle.report_text.specs.Report.{item_text, name_of, page_text, pages_text, range_text, bad_text, pair}
 
 -- the text before the first space of an item's line
 abbrev pub front_of : Item → List ℕ

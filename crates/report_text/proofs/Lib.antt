@@ -1,4 +1,3 @@
-mod BuiltLines
 mod Decoding
 mod ItemFields
 mod Lists

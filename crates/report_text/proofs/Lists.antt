@@ -5,7 +5,8 @@ use Rattle.std.specs.List.{All, flat_map}
 use Rattle.spie_base.specs.declared.PageNo.{PageNo}
 use Rattle.report_text.specs.declared.items.Bad.{Bad}
 use Rattle.report_text.specs.Laws.{IsPage, IsBad}
-use Rattle.report_text.specs.Report.{listed, page_text, pages_text, bad_one, bad_text}
+use Rattle.line_text.specs.Writing.{listed}
+use Rattle.report_text.specs.Report.{page_text, pages_text, bad_one, bad_text}
 use Rattle.report_text.proofs.Pieces.{Each, lacks, lacks-append, parts, parts_joined}
 use Rattle.report_text.proofs.Numbers.{space, comma, lacks-decimal, is_dash, no_dash-decimal}
 use Rattle.report_text.proofs.PageFields.{page_of, page_back, bad_of, bad_back, bad_space, bad_comma, bad_starts}

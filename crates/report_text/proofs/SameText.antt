@@ -5,7 +5,8 @@ use Rattle.std.specs.List.{flat_map}
 use Rattle.topology.specs.Layout.{IsEachOnce}
 use Rattle.report_text.specs.declared.items.Item.{Item}
 use Rattle.report_text.specs.Laws.{HasNoSpaces, IsWritable, SameTextSameItem}
-use Rattle.report_text.specs.Report.{IsPrintable, spaced}
+use Rattle.line_text.specs.Writing.{spaced}
+use Rattle.report_text.specs.Report.{IsPrintable}
 use Rattle.report_text.proofs.Pieces.{parts, parts_joined}
 use Rattle.report_text.proofs.Numbers.{number_of}
 use Rattle.report_text.proofs.ItemFields.{front_of, fields_of, text_is}

@@ -1,8 +1,8 @@
 -- How the lines of a report are spelled.
 use Rattle.std.specs.Prelude.{ℕ, ◌<◌, List, [], ◌∷◌, ◌++◌, length, codes, slice_index_or, decimal, Some, None}
 use Rattle.std.specs.declared.option.Option.{Option}
-use Rattle.std.specs.List.{flat_map}
 use Rattle.hex.specs.Hex.{encode_lower}
+use Rattle.line_text.specs.Writing.{line_text, listed}
 use Rattle.spie_base.specs.declared.Sig.{Sig}
 use Rattle.spie_base.specs.declared.RouterId.{RouterId}
 use Rattle.spie_base.specs.declared.PageNo.{PageNo}
@@ -14,14 +14,6 @@ use Rattle.report_text.specs.declared.items.CauseWord.TheVariants.{Failed, Other
 use Rattle.report_text.specs.declared.items.Item.{Item}
 use Rattle.report_text.specs.declared.items.Item.TheVariants.{Head, Entered, Opened, Archived, Seen, NotSeen, Unknown, Tick, Closed, Left, Query, Pages, NodeLine, EdgeLine, UnknownLine, Answer, End}
 
--- a field behind a space
-abbrev pub spaced : List ℕ → List ℕ
-spaced field = 32 ∷ field
-
--- a line's number, its fields, and a line feed
-abbrev pub line_text : ℕ → List (List ℕ) → List ℕ
-line_text line fields = decimal line ++ flat_map spaced fields ++ 10 ∷ []
-
 -- 56 lower-case hex digits
 abbrev pub sig_text : Sig → List ℕ
 sig_text sig = encode_lower sig.bytes
@@ -29,11 +21,6 @@ sig_text sig = encode_lower sig.bytes
 -- the name of a router
 abbrev pub name_of : List (List ℕ) → RouterId → List ℕ
 name_of names router = slice_index_or names router.number []
-
--- the texts of some things with a comma between each two, or a dash where there are none
-abbrev pub listed : {X : Type 0} → (X → List ℕ) → List X → List ℕ
-listed text [] = codes "-"
-listed text (first ∷ more) = text first ++ flat_map (λ x. 44 ∷ text x) more
 
 abbrev pub page_text : PageNo → List ℕ
 page_text page = decimal page.number

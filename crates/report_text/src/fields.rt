@@ -1,47 +1,16 @@
 // The fields of a line, each behind a space.
 ghost use Rattle.std.specs.Prelude.{◌≡◌, ◌++◌, ◌∷◌, ◌<◌, OnOk, decimal, length};
 ghost use Rattle.std.specs.List.{flat_map};
-ghost use Rattle.report_text.specs.Report.{spaced, sig_text, name_of, pages_text, range_text, bad_text, bad_one, cause_text, page_text};
+ghost use Rattle.line_text.specs.Writing.{spaced};
+ghost use Rattle.report_text.specs.Report.{sig_text, name_of, pages_text, range_text, bad_text, bad_one, cause_text, page_text};
 
 use crate::{Bad, CauseWord};
-use itoa::Buffer;
+use line_text::{push, push_count, push_field, push_number};
 use spie_base::{NoMemory, PageNo, PageRange, RouterId, Sig};
 use topology::Topology;
 
 // Stands where a list or a range is empty.
 const NONE: &[u8] = b"-";
-
-/// Appends some bytes.
-pub fn push(out: &mut Vec<u8>, bytes: &[u8]) -> Result<(), NoMemory>
-    ensures { OnOk result (out.new.items ≡ out.old.items ++ bytes.now) }
-{
-    out.extend_from_slice(bytes)?;
-    Ok(())
-}
-
-/// Appends a number.
-pub fn push_number(out: &mut Vec<u8>, number: u64) -> Result<(), NoMemory>
-    ensures { OnOk result (out.new.items ≡ out.old.items ++ decimal number) }
-{
-    let mut buffer = Buffer::new();
-    push(out, buffer.format(number).as_bytes())
-}
-
-/// Appends a field.
-pub fn push_field(out: &mut Vec<u8>, field: &[u8]) -> Result<(), NoMemory>
-    ensures { OnOk result (out.new.items ≡ out.old.items ++ spaced field.now) }
-{
-    push(out, b" ")?;
-    push(out, field)
-}
-
-/// Appends a field that is a number.
-pub fn push_count(out: &mut Vec<u8>, count: u64) -> Result<(), NoMemory>
-    ensures { OnOk result (out.new.items ≡ out.old.items ++ spaced (decimal count)) }
-{
-    push(out, b" ")?;
-    push_number(out, count)
-}
 
 /// Appends a field that is a router's name.
 pub fn push_name(out: &mut Vec<u8>, topology: &Topology, router: RouterId) -> Result<(), NoMemory>

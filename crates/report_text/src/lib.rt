@@ -6,7 +6,6 @@
 //! code, one function for each kind of line, and `laws` for what the text determines.
 #![tactic(auto)]
 
-mod backwards;
 mod fields;
 mod items;
 pub mod laws;
@@ -14,7 +13,3 @@ mod lines;
 
 pub use items::{Bad, CauseWord, Item};
 pub use lines::push_item;
-
-// For other texts of such lines.
-pub use fields::{push, push_count, push_field, push_number};
-pub use lines::{push_counted, push_word};

@@ -17,7 +17,7 @@ use Rattle.spie_base.proofs.DecimalText.{number_in_some}
 use Rattle.trace_format.specs.Before.{Known}
 use Rattle.trace_format.specs.Reading.{judged, number, number_by, name_in, kind_in, bytes_in, bytes_by, base_of, base_by, front_in, times_in, back_in, shape_in, grown, accept, read_line, line_by, by_fields, word_of, version_fields, version_line, shape_line, router_fields, router_line, link_fields, link_line, begin_line, packet_line, fwd_fields, fwd_line, xf_fields, xf_line, rotate_line, archive_line, watch_fields, watch_line, tick_line, query_fields, query_line, end_line}
 use Rattle.trace_format.specs.Spelling.{Spells, IsName, IsHex, IsBase, IsFront, IsBack, kind_word}
-use Rattle.trace_format.specs.Text.{fields}
+use Rattle.line_text.specs.Text.{fields}
 use Rattle.trace_format.specs.Words.{word_said, may_come}
 use Rattle.trace_format.specs.Said.{Said}
 use Rattle.trace_format.specs.Said as said

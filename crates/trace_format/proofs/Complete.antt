@@ -8,7 +8,7 @@ use Rattle.trace_format.specs.declared.words.Word.{Word}
 use Rattle.trace_format.specs.declared.words.Word.TheVariants as word
 use Rattle.trace_format.specs.Before.{known_of}
 use Rattle.trace_format.specs.Reading.{read_line, read_lines, known_in, grown, read_of}
-use Rattle.trace_format.specs.Text.{lines}
+use Rattle.line_text.specs.Text.{lines}
 use Rattle.trace_format.specs.Trace.{Begins, IsLine, IsTrace}
 use Rattle.trace_format.specs.Words.{stage_of, word_said, is_over, may_come}
 use Rattle.trace_format.specs.Said.{Said}

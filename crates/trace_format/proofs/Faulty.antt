@@ -12,12 +12,12 @@ use Rattle.trace_format.specs.Fault.{too_long, HasWord, IsBad, IsRefused, RestBr
 use Rattle.trace_format.specs.Reading.{read_line, read_lines, by_fields, refused, then_read, known_in, accept, trace_by, read_of}
 use Rattle.trace_format.specs.Spelling.{Spells}
 use Rattle.trace_format.specs.Table.{first_of, table, breaks}
-use Rattle.trace_format.specs.Text.{lines, fields}
+use Rattle.line_text.specs.Text.{lines, fields}
 use Rattle.trace_format.specs.Trace.{Begins, IsLine}
 use Rattle.trace_format.specs.Words.{stage_of, word_said, is_over, may_come, word_text, arity}
 use Rattle.trace_format.specs.Said.{Said}
 use Rattle.trace_format.proofs.Growing.{grown_known}
-use Rattle.trace_format.proofs.Lines.{some_part}
+use Rattle.line_text.proofs.Parts.{some_part}
 use Rattle.trace_format.proofs.Taken.{read_accepted, judged_fits}
 use Rattle.trace_format.proofs.Refusals.{fields_err, accept_err, PartsTrouble, Trouble}
 use Rattle.trace_format.specs.declared.limits.TheConstants.{MOST_BYTES, MOST_LINE_BYTES}

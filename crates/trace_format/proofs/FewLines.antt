@@ -4,7 +4,7 @@ use Rattle.std.specs.List.{onto_first}
 use Rattle.trace_format.specs.Before.{lines_of, layout_of, how_many, added, whats}
 use Rattle.trace_format.specs.Said.{Said}
 use Rattle.trace_format.specs.Said as said
-use Rattle.trace_format.specs.Text.{lines}
+use Rattle.line_text.specs.Text.{lines}
 use Rattle.trace_format.specs.Trace.{Begins}
 use Rattle.trace_format.specs.Words.{stage_of, word_said, may_come, is_over}
 use Rattle.trace_format.specs.declared.items.Line.{Line}

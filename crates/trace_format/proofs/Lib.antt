@@ -1,12 +1,12 @@
 pub mod Again
 pub mod Binds
 pub mod Complete
-pub mod Cuts
 pub mod DecimalFields
 pub mod Declared
 pub mod Faulty
 pub mod FewLines
 pub mod FieldForms
+pub mod Forwards
 pub mod Growing
 pub mod HexDigits
 pub mod Lines

@@ -12,7 +12,7 @@ use Rattle.trace_format.specs.Fault.{HasWord, HasNoWord, IsBad, IsRefused, LastB
 use Rattle.trace_format.specs.Reading.{read_line, read_lines, line_by, by_fields, by_word, refused, then_read, known_in, word_of, accept, judged, read_of}
 use Rattle.trace_format.specs.Spelling.{Spells}
 use Rattle.trace_format.specs.Table.{first_broken}
-use Rattle.trace_format.specs.Text.{lines, fields}
+use Rattle.line_text.specs.Text.{lines, fields}
 use Rattle.trace_format.specs.Trace.{Begins}
 use Rattle.trace_format.specs.Words.{stage_of, word_said, is_over, may_come, word_text, arity}
 use Rattle.trace_format.specs.Said.{Said}

@@ -8,7 +8,7 @@ use Rattle.trace_format.specs.declared.refused.WhyRefused.TheVariants as why
 use Rattle.trace_format.specs.Before.{Known, known_of}
 use Rattle.trace_format.specs.Fault.{too_long}
 use Rattle.trace_format.specs.Reading.{read_line, read_lines, refused, then_read, known_in, trace_by, read_of}
-use Rattle.trace_format.specs.Text.{lines}
+use Rattle.line_text.specs.Text.{lines}
 use Rattle.trace_format.specs.Trace.{Begins, IsLine, IsTrace, trace_of}
 use Rattle.trace_format.specs.Words.{stage_of, is_over}
 use Rattle.trace_format.specs.Said.{Said}

@@ -8,7 +8,7 @@ use Rattle.trace_format.specs.Before.{Known}
 use Rattle.trace_format.specs.Table.{first_broken}
 use Rattle.trace_format.specs.Reading.{judged_by, judged, name_in, number, kind_in, bytes_in, grown, accept, read_line, line_by, by_fields, by_word, word_of, version_fields, version_line, shape_in, shape_line, router_fields, router_line, link_fields, link_line, begin_line, packet_line, fwd_fields, fwd_line, xf_fields, xf_line, rotate_line, archive_line, watch_fields, watch_line, tick_line, query_fields, query_line, end_line}
 use Rattle.trace_format.specs.Spelling.{Spells, kind_word}
-use Rattle.trace_format.specs.Text.{fields}
+use Rattle.line_text.specs.Text.{fields}
 use Rattle.trace_format.specs.Words.{word_said, word_text, may_come}
 use Rattle.trace_format.specs.Outcomes.{◌>>=◌}
 use Rattle.trace_format.specs.Said.{Said}

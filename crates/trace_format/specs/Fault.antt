@@ -6,7 +6,7 @@ use Rattle.trace_format.specs.declared.limits.TheConstants.{MOST_BYTES, MOST_LIN
 use Rattle.trace_format.specs.Said.{Said}
 use Rattle.trace_format.specs.Spelling.{Spells}
 use Rattle.trace_format.specs.Table.{first_broken}
-use Rattle.trace_format.specs.Text.{fields, lines}
+use Rattle.line_text.specs.Text.{fields, lines}
 use Rattle.trace_format.specs.Trace.{Begins}
 use Rattle.trace_format.specs.Words.{word_text, word_said, arity, stage_of, may_come, is_over}
 use Rattle.trace_format.specs.declared.refused.TraceRefused.{TraceRefused}

@@ -1,5 +1,6 @@
 pub mod Before
 pub mod Fault
+pub mod ForwardLine
 pub mod Laws
 pub mod Limits
 pub mod Outcomes

@@ -21,7 +21,8 @@ use Rattle.trace_format.specs.Outcomes.{◌>>=◌}
 use Rattle.trace_format.specs.Said.{Said}
 use Rattle.trace_format.specs.Said as said
 use Rattle.trace_format.specs.Table.{first_broken}
-use Rattle.trace_format.specs.Text.{fields, lines, is_name}
+use Rattle.line_text.specs.Text.{fields, lines}
+use Rattle.trace_format.specs.Text.{is_name}
 use Rattle.trace_format.specs.Trace.{trace_of}
 use Rattle.trace_format.specs.Words.{word_text, may_come, is_over}
 use Rattle.trace_format.specs.declared.items.Trace.{Trace}

@@ -1,4 +1,3 @@
-// The forms of single fields.
 ghost use Rattle.std.specs.Prelude.{◌≡◌, ◌≤◌, IfOk, map};
 ghost use Rattle.trace_format.specs.Reading.{number, base_of, kind_in, name_in, front_in, times_in, back_in, shape_in};
 

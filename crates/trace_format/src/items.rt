@@ -23,11 +23,11 @@ pub enum What {
     Rotate {
         router: RouterId,
     },
-    /// A router's closed pages are put on the shelf.
+    /// A router puts its closed pages on the shelf.
     Archive {
         router: RouterId,
     },
-    /// Whether a router's open page has a packet.
+    /// Whether a router has seen a packet, by the pages of the current window that it has in memory.
     Watch {
         router: RouterId,
         packet: u32,
@@ -36,7 +36,7 @@ pub enum What {
     Tick {
         time: u64,
     },
-    /// Whence a packet came that a router saw at a time.
+    /// Where a packet came from that a router saw at a time.
     Query {
         router: RouterId,
         packet: u32,

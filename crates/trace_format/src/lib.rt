@@ -11,6 +11,7 @@
 mod digits;
 mod draft;
 mod fields;
+mod forward;
 mod items;
 pub mod laws;
 mod limits;
@@ -32,4 +33,3 @@ pub use refused::{ReadTraceRefused, TraceRefused, WhyRefused};
 pub use fields::{base_of, number};
 pub use limits::{MOST_BYTES, MOST_LINE_BYTES};
 pub use steps::Stop;
-pub use text::{cut, split_into};

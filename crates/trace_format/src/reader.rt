@@ -1,21 +1,25 @@
-// Reads the text of a trace.
-ghost use Rattle.std.specs.Prelude.{◌∷◌, [], ◌<◌, ◌^◌, length, IfOk, Ok, Err};
+ghost use Rattle.std.specs.Prelude.{◌≡◌, ◌∷◌, [], ◌<◌, ◌^◌, length, IfOk, IfErr, IfSome, IfNone, Ok, Err, true};
 ghost use Rattle.trace_format.specs.Before.{known_of};
 ghost use Rattle.trace_format.specs.Fault.{IsFault};
-ghost use Rattle.trace_format.specs.Outcomes.{Reads, IsReadAs, RefusedWith};
+ghost use Rattle.trace_format.specs.ForwardLine.{BeginsForward, IsNext};
+ghost use Rattle.trace_format.specs.Outcomes.{Ends, Reads, IsReadAs, RefusedWith};
 ghost use Rattle.trace_format.specs.Reading as reading;
 ghost use Rattle.trace_format.specs.Sound.{IsSound};
-ghost use Rattle.trace_format.specs.Text.{lines};
+ghost use Rattle.line_text.specs.Text.{IsUncut, lines};
 ghost use Rattle.trace_format.specs.Trace.{IsTrace};
 ghost use Rattle.trace_format.specs.declared.items.Trace.{Trace};
+ghost use Rattle.trace_format.specs.Words.{may_come};
 ghost use Rattle.trace_format.specs.declared.refused.TraceRefused.{TraceRefused};
+ghost use Rattle.trace_format.specs.declared.words.Word.TheVariants as word;
 
 use crate::draft::Draft;
+use crate::forward::{Forward, forward_front};
 use crate::items::Trace;
 use crate::limits::MOST_BYTES;
 use crate::refused::{ReadTraceRefused, TraceRefused, WhyRefused};
 use crate::steps::Stop;
-use crate::text::cut;
+use crate::words::Word;
+use line_text::cut;
 use std::alloc::Global;
 
 // What stands behind the last line end.
@@ -42,6 +46,71 @@ fn started(alloc: Global) -> Result<Draft, ReadTraceRefused>
     }
 }
 
+// One more line, by its fields. Nothing where no line end is left.
+fn next_by_fields<'a>(
+    alloc: Global,
+    draft: &mut Draft,
+    found: &mut Vec<&'a [u8]>,
+    text: &'a [u8],
+) -> Result<Option<&'a [u8]>, ReadTraceRefused>
+    requires { draft.old.read < 2 ^ 40 }
+    ensures more { IfOk result (λ more. IfSome more (λ after. IsNext draft.old draft.new text.now after.now)) }
+    ensures last { IfOk result (λ more. IfNone more ((draft.new ≡ draft.old) × IsUncut 10 text.now)) }
+    ensures fault { IfErr result (λ end. Ends end (reading.read_lines draft.old (lines text.now))) }
+{
+    let Some((front, after)) = cut(text, b'\n') else {
+        return Ok(None);
+    };
+    let line = draft.next_line();
+    if draft.stage().is_over() {
+        return Err(Stop::Rule(WhyRefused::After).at_line(line));
+    }
+    match draft.read_line(alloc, found, front) {
+        Ok(()) => Ok(Some(after)),
+        Err(stop) => Err(stop.at_line(line)),
+    }
+}
+
+// One more line, which is a `fwd` line.
+fn next_forward<'a>(
+    draft: &mut Draft,
+    line: Forward<'a>,
+    text: &[u8],
+) -> Result<&'a [u8], ReadTraceRefused>
+    requires short { draft.old.read < 2 ^ 40 }
+    requires comes { may_come draft.old.stage word.Fwd ≡ true }
+    requires begins { BeginsForward text.now line.name.now line.packet line.after.now }
+    ensures more { IfOk result (λ after. IsNext draft.old draft.new text.now after.now) }
+    ensures fault { IfErr result (λ end. Ends end (reading.read_lines draft.old (lines text.now))) }
+{
+    let _ = text;
+    let number = draft.next_line();
+    match draft.accept_fwd(line.name, line.packet) {
+        Ok(()) => Ok(line.after),
+        Err(stop) => Err(stop.at_line(number)),
+    }
+}
+
+// One more line. Nothing where no line end is left.
+fn next_line<'a>(
+    alloc: Global,
+    draft: &mut Draft,
+    found: &mut Vec<&'a [u8]>,
+    text: &'a [u8],
+) -> Result<Option<&'a [u8]>, ReadTraceRefused>
+    requires { draft.old.read < 2 ^ 40 }
+    ensures more { IfOk result (λ more. IfSome more (λ after. IsNext draft.old draft.new text.now after.now)) }
+    ensures last { IfOk result (λ more. IfNone more ((draft.new ≡ draft.old) × IsUncut 10 text.now)) }
+    ensures fault { IfErr result (λ end. Ends end (reading.read_lines draft.old (lines text.now))) }
+{
+    if draft.stage().allows(Word::Fwd) {
+        if let Some(line) = forward_front(text) {
+            return Ok(Some(next_forward(draft, line, text)?));
+        }
+    }
+    next_by_fields(alloc, draft, found, text)
+}
+
 // Reads all lines of a text.
 fn read_lines(alloc: Global, text: &[u8]) -> Result<Draft, ReadTraceRefused>
     requires { length text.now < 2 ^ 40 }
@@ -50,15 +119,7 @@ fn read_lines(alloc: Global, text: &[u8]) -> Result<Draft, ReadTraceRefused>
     let mut draft = started(alloc)?;
     let mut found = Vec::new(alloc);
     let mut rest = text;
-    while let Some((front, after)) = cut(rest, b'\n') {
-        let line = draft.next_line();
-        if draft.stage().is_over() {
-            return Err(Stop::Rule(WhyRefused::After).at_line(line));
-        }
-        match draft.read_line(alloc, &mut found, front) {
-            Ok(()) => {}
-            Err(stop) => return Err(stop.at_line(line)),
-        }
+    'lines: while let Some(after) = next_line(alloc, &mut draft, &mut found, rest)? {
         rest = after;
     }
     ended(&draft, rest)?;

@@ -1,7 +1,8 @@
 // What other texts of such lines and fields are read by, and the laws.
+use line_text::{cut, split_into};
 use std::rt::HostRuntime;
 use std::test::Fail;
-use trace_format::{WhyRefused, base_of, cut, laws, number, split_into};
+use trace_format::{WhyRefused, base_of, laws, number};
 
 #[test]
 fn parts_of_texts(rt: HostRuntime) -> Result<(), Fail> {

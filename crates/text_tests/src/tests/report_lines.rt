@@ -1,10 +1,8 @@
 // The lines of a report, and the parts of which other texts make such lines.
 ghost use Rattle.std.specs.Prelude.{◌<◌, length};
 
-use report_text::{
-    Bad, CauseWord, Item, push, push_count, push_counted, push_field, push_item, push_number,
-    push_word,
-};
+use line_text::{push, push_count, push_counted, push_field, push_number, push_word};
+use report_text::{Bad, CauseWord, Item, push_item};
 use reverse_flood::{Edge, Node};
 use spie_base::{List, PageNo, PageRange, RouterId, Sig};
 use std::alloc::{AllocError, Global};

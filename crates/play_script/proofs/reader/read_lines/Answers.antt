@@ -1,7 +1,7 @@
 use Rattle.std.proofs.Common.{◌≡◌, ◌+◌, [], arith, ap, sym, ◌∙◌, true, false, Err}
 use Rattle.play_script.specs.Before.{known_of}
 use Rattle.trace_format.specs.Outcomes.{Ends, stopped}
-use Rattle.trace_format.specs.Text.{lines}
+use Rattle.line_text.specs.Text.{lines}
 use Rattle.play_script.specs.Reading.{read_lines, refused}
 use Rattle.play_script.specs.Words.{is_over}
 use Rattle.trace_format.specs.declared.refused.WhyRefused.TheVariants as why

@@ -1,7 +1,7 @@
 use Rattle.std.proofs.Common.{◌≡◌, ◌≤◌, ◌+◌, [], length}
 use Rattle.play_script.specs.Before.{known_of}
 use Rattle.play_script.specs.Reading.{read_lines}
-use Rattle.trace_format.specs.Text.{lines}
+use Rattle.line_text.specs.Text.{lines}
 use Rattle.play_script.proofs.reader.read_lines.Given as goal
 
 -- what is read of the rest from here on is what is read of all

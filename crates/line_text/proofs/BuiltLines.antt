@@ -3,7 +3,7 @@ use Rattle.std.proofs.Common.{ℕ, ◌≡◌, List, [], ◌∷◌, ◌++◌, ap,
 use Rattle.std.proofs.lemmas.Grind.{common_steps}
 use Rattle.std.proofs.lemmas.List.{append-nil}
 use Rattle.std.specs.List.{flat_map}
-use Rattle.report_text.specs.Report.{spaced}
+use Rattle.line_text.specs.Writing.{spaced}
 
 flat : (l w c : List ℕ) → l ++ (32 ∷ (w ++ (32 ∷ (c ++ (10 ∷ []))))) ≡ l ++ flat_map spaced (w ∷ c ∷ []) ++ 10 ∷ []
 flat l w c =

@@ -1,8 +1,8 @@
 use Rattle.std.proofs.Common.{◌∷◌, ap, ◌∙◌, arith}
 use Rattle.std.proofs.lemmas.List.{drop_all}
 use Rattle.std.specs.Fmt.{decimal}
-use Rattle.report_text.proofs.BuiltLines.{pieces}
-use Rattle.report_text.proofs.backwards.counted_in.Goals as goal
+use Rattle.line_text.proofs.BuiltLines.{pieces}
+use Rattle.line_text.proofs.backwards.counted_in.Goals as goal
 
 pub returns-clause-written : goal.returns-clause-written
 returns-clause-written c =

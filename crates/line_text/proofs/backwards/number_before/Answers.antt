@@ -1,7 +1,7 @@
 use Rattle.std.proofs.Common.{◌≤◌, length, arith}
 use Rattle.std.proofs.lemmas.Fmt.{length-decimal-le}
 use Rattle.std.specs.Fmt.{decimal}
-use Rattle.report_text.proofs.backwards.number_before.Goals as goal
+use Rattle.line_text.proofs.backwards.number_before.Goals as goal
 
 pub write_digits-requires : goal.write_digits-requires
 write_digits-requires c =

@@ -1,0 +1,3 @@
+pub mod BuiltLines
+pub mod Cuts
+pub mod Parts

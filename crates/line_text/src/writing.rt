@@ -1,0 +1,70 @@
+// The parts of a line, and short lines.
+ghost use Rattle.std.specs.Prelude.{◌≡◌, ◌++◌, ◌∷◌, [], OnOk, decimal};
+ghost use Rattle.line_text.specs.Writing.{spaced, line_text};
+
+use crate::backwards::{MOST_WORD, ROOM, counted_in};
+use itoa::Buffer;
+use spie_base::NoMemory;
+
+/// Appends some bytes.
+pub fn push(out: &mut Vec<u8>, bytes: &[u8]) -> Result<(), NoMemory>
+    ensures { OnOk result (out.new.items ≡ out.old.items ++ bytes.now) }
+{
+    out.extend_from_slice(bytes)?;
+    Ok(())
+}
+
+/// Appends a number.
+pub fn push_number(out: &mut Vec<u8>, number: u64) -> Result<(), NoMemory>
+    ensures { OnOk result (out.new.items ≡ out.old.items ++ decimal number) }
+{
+    let mut buffer = Buffer::new();
+    push(out, buffer.format(number).as_bytes())
+}
+
+/// Appends a field.
+pub fn push_field(out: &mut Vec<u8>, field: &[u8]) -> Result<(), NoMemory>
+    ensures { OnOk result (out.new.items ≡ out.old.items ++ spaced field.now) }
+{
+    push(out, b" ")?;
+    push(out, field)
+}
+
+/// Appends a field that is a number.
+pub fn push_count(out: &mut Vec<u8>, count: u64) -> Result<(), NoMemory>
+    ensures { OnOk result (out.new.items ≡ out.old.items ++ spaced (decimal count)) }
+{
+    push(out, b" ")?;
+    push_number(out, count)
+}
+
+/// Appends a line of its number and a word.
+pub fn push_word(out: &mut Vec<u8>, line: u64, word: &[u8]) -> Result<(), NoMemory>
+    ensures { OnOk result (out.new.items ≡ out.old.items ++ line_text line (word.now ∷ [])) }
+{
+    push_number(out, line)?;
+    push_field(out, word)?;
+    push(out, b"\n")
+}
+
+/// Appends a line of its number, a word and a count.
+pub fn push_counted(out: &mut Vec<u8>, line: u64, word: &[u8], count: u64) -> Result<(), NoMemory>
+    ensures { OnOk result (out.new.items ≡ out.old.items ++ line_text line (word.now ∷ decimal count ∷ [])) }
+{
+    if word.len() > MOST_WORD {
+        return push_parts(out, line, word, count);
+    }
+    let mut buffer = [0; ROOM];
+    let start = counted_in(&mut buffer, line, word, count);
+    push(out, &buffer[start..])
+}
+
+// The same, part by part.
+fn push_parts(out: &mut Vec<u8>, line: u64, word: &[u8], count: u64) -> Result<(), NoMemory>
+    ensures { OnOk result (out.new.items ≡ out.old.items ++ line_text line (word.now ∷ decimal count ∷ [])) }
+{
+    push_number(out, line)?;
+    push_field(out, word)?;
+    push_count(out, count)?;
+    push(out, b"\n")
+}
