@@ -34,7 +34,7 @@ module _ (shape : PageShape) where
   positive : 0 < width shape
   positive = pow_pos (shape.n - 6)
 
-  slots : SlotsFit shape d
+  pub slots : SlotsFit shape d
   slots = record {
     four = refl;
     pointed_slot = omega arith;

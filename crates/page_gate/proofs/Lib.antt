@@ -1,8 +1,15 @@
 pub mod Allowed
+pub mod Collecting
 pub mod Dealt
 pub mod FourSlots
 pub mod Gathered
+pub mod KeptSlots
 pub mod Places
+pub mod Probing
 pub mod Rising
+pub mod Rotating
 pub mod SealedSlots
+pub mod Settling
+pub mod SlotWith
 pub mod Tells
+pub mod WholeWords

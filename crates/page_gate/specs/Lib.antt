@@ -4,3 +4,7 @@ pub mod Lasts
 pub mod Held
 pub mod Slots
 pub mod Placed
+pub mod Pages
+pub mod Settled
+pub mod Rotated
+pub mod Probes

@@ -16,6 +16,10 @@ HasOpen d = open_slot d < SLOTS
 abbrev pub open_page : Duties → ℕ
 open_page d = (slot_at d (open_slot d)).page
 
+-- where a page was open, the same one still is
+abbrev pub StaysOpen : (before after : Duties) → Type 0
+StaysOpen d e = HasOpen d → HasOpen e × (open_page e ≡ open_page d)
+
 abbrev pub is_free : SlotPhase → Bool
 is_free Free = true
 is_free Open = false

@@ -4,6 +4,7 @@ ghost use Rattle.gate_core.specs.Invariant.{IsWhole};
 ghost use Rattle.gate_core.specs.declared.limits.TheConstants.{MOST_PASSES};
 ghost use Rattle.page_gate.specs.Steps.{IsMet};
 ghost use Rattle.page_gate.specs.Held.{dealt_held, dealer_held, gathered_all, WasAlone};
+ghost use Rattle.page_gate.specs.Slots.{StaysOpen};
 
 use crate::keeper::Keeper;
 use crate::pass::Pass;
@@ -45,6 +46,8 @@ impl Plane {
         ensures gathered { keeper.new ≡ gathered_all keeper.old passes.items }
         ensures none_out { keeper.new.view.duties.out ≡ 0 }
         ensures entries { keeper.new.view.entries ≡ keeper.old.view.entries ++ flat_map (λ p. p.entries) passes.items }
+        ensures slots { keeper.new.view.duties.slots ≡ keeper.old.view.duties.slots }
+        ensures open { StaysOpen keeper.old.view.duties keeper.new.view.duties }
         ensures whole { IsWhole self.now.shape keeper.new.view }
         ensures alone { WasAlone self.now.shape keeper.new.view }
         ensures met { IsMet self.now.shape keeper.new.view }

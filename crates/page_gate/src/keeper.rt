@@ -1,12 +1,14 @@
 // Who deals and gathers, and turns the pages.
-ghost use Rattle.std.specs.Prelude.{◌≡◌, ◌<◌, ◌≤◌, ◌↔◌, ℕ, IsTrue, IsNone, IfSome};
-ghost use Rattle.page_gate.specs.Slots.{HasOpen, IsWaiting, open_page, free_count};
+ghost use Rattle.std.specs.Prelude.{◌≡◌, ◌+◌, ◌<◌, ◌≤◌, ◌↔◌, ℕ, true, IsTrue, IsNone, IfSome};
+ghost use Rattle.page_gate.specs.Slots.{HasOpen, IsWaiting, is_waiting, open_page, free_count};
+ghost use Rattle.gate_core.specs.Invariant.{HasPage};
+ghost use Rattle.page_gate.specs.Pages.{phase_with};
 
 use crate::hashes::PageHashes;
-use crate::slots::{free, oldest};
+use crate::slots::{free, oldest, phase_at, slot_with};
 use atomic_table::Seat;
 use gate_core::view::{Slot, View};
-use gate_core::{SLOTS, open_slot};
+use gate_core::{SLOTS, SlotPhase, open_slot};
 use spie_base::PageNo;
 use std::marker::Model;
 
@@ -28,12 +30,13 @@ impl Model for Keeper {
     ghost use Rattle.gate_core.specs.declared.states.PassState.TheVariants.{Idle};
     ghost use Rattle.page_gate.specs.Held.{Held};
     ghost use Rattle.page_gate.specs.Slots.{HasOpen};
+    ghost use Rattle.page_gate.specs.Pages.{AreKept};
 
     ghost Value = { Held };
 
     ghost view = { λ k. record { table = k.seat.table_id; view = k.seat.me.0 } };
 
-    ghost invariant = { λ k. (k.out ≡ k.seat.me.0.duties.out) × (k.seat.me.0.state ≡ Idle) × (k.seat.me.0.role ≡ keeping) × (k.seat.me.1 ≡ []) × (k.slots ≡ k.seat.me.0.duties.slots) × (length k.seat.me.0.duties.slots ≡ SLOTS) × (HasOpen k.seat.me.0.duties → k.seat.me.0.duties.pointed ≡ open_slot k.seat.me.0.duties) };
+    ghost invariant = { λ k. (k.out ≡ k.seat.me.0.duties.out) × (k.seat.me.0.state ≡ Idle) × (k.seat.me.0.role ≡ keeping) × (k.seat.me.1 ≡ []) × (k.slots ≡ k.seat.me.0.duties.slots) × (length k.seat.me.0.duties.slots ≡ SLOTS) × (HasOpen k.seat.me.0.duties → k.seat.me.0.duties.pointed ≡ open_slot k.seat.me.0.duties) × AreKept k.seat.me.0.duties };
 }
 
 impl Keeper {
@@ -58,14 +61,24 @@ impl Keeper {
         open_slot(&self.slots) < SLOTS
     }
 
-    /// The page that is open.
+    /// The page that is open. The next one has the number behind it.
     pub fn open_page(&self) -> PageNo
         requires open { HasOpen self.now.view.duties }
-        ensures { result.number ≡ open_page self.now.view.duties }
+        ensures page { result.number ≡ open_page self.now.view.duties }
+        ensures next { result.number + 1 ≡ self.now.view.duties.next }
     {
         PageNo {
             number: self.slots[usize::from(open_slot(&self.slots))].page,
         }
+    }
+
+    /// Where a page is in its life: open, sealed or quiet; free where it stands in no slot.
+    pub fn phase(&self, page: PageNo) -> SlotPhase
+        ensures phase { result ≡ phase_with self.now.view.duties page.number }
+        ensures stands { (result ≡ SlotPhase.Free → ⊥) → HasPage (phase_with self.now.view.duties page.number) }
+        ensures waiting { (is_waiting result ≡ true) → IsWaiting self.now.view.duties page.number }
+    {
+        phase_at(&self.slots, slot_with(&self.slots, page.number))
     }
 
     /// The least page that is closed and not collected.

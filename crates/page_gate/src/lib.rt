@@ -25,22 +25,34 @@
 //! at run time. After `gather` the keeper has all entries, nobody is inside, and the bits of every page are exactly the marks
 //! of its entries.
 //!
+//! # Turning pages
+//!
+//! `rotate_alone` seals the open page, opens the next one in a free slot, and points the current slot there. A closed page is quiet
+//! once `settle` found nobody inside; then `collect` takes its words, and its slot is free again. `probe` asks for the marks of one
+//! signature, and `fill` and `snapshot` for all bits of a page. None of these waits.
+//!
 //! # What is proved
 //!
 //! `told` has the rule and what each operation tells; `proofs/Allowed` shows by `gate_core`'s one lemma that each act is allowed. The
 //! central contracts are `try_record` (an entry more, or a visit of a gate that was sealed then), `gather`, and `record_alone`,
-//! which finds the open page unsealed. Read `specs/Held`, `specs/Tried` and `specs/Slots` first, then `record`, `seats` and `trying`.
+//! which finds the open page unsealed; of the keeper's side `settle`, `collect`, `probe` and `snapshot`. Read `specs/Held`, `specs/Tried`,
+//! `specs/Slots` and `specs/Pages` first, then `record`, `seats` and `trying`, then `settle`, `collect`, `rotate` and `probe`.
 #![tactic(auto)]
 
+mod collect;
 mod deal;
 mod hashes;
 mod keeper;
 mod open;
 mod pass;
 mod plane;
+mod probe;
+mod reading;
 mod record;
+mod rotate;
 mod seal;
 mod seats;
+mod settle;
 mod slots;
 mod steps;
 #[cfg(test)]
@@ -53,3 +65,4 @@ pub use keeper::Keeper;
 pub use pass::Pass;
 pub use plane::Plane;
 pub use record::Tried;
+pub use settle::Settled;
