@@ -7,12 +7,9 @@ use Rattle.std.specs.declared.cmp.Ordering.TheVariants.{Less}
 use Rattle.std.proofs.lemmas.List.Elements.{Contains-append_cases, Contains-append_right}
 use Rattle.std.proofs.lemmas.List.{take-append-drop}
 use Rattle.spie_base.proofs.Membership.{has_none, has_first, has_later, has_cases, from_map, from_flat_map}
+use Rattle.spie_base.proofs.SortedLists.{of_each}
 
 -- what holds of each item
-pub of_each : {K : Type 0} (P : K → Type 0) (xs : List K) (z : K) → AllByRecursion P xs → Contains xs z → P z
-of_each P [] z all h = absurd (has_none z h)
-of_each P (x ∷ xs) z all h = ⊎_elim (λ e. subst P e all.0) (λ later. of_each P xs z all.1 later) (has_cases x xs z h)
-
 pub for_each : {K : Type 0} (P : K → Type 0) (xs : List K) → ((z : K) → Contains xs z → P z) → AllByRecursion P xs
 for_each P [] all = tt
 for_each P (x ∷ xs) all = (all x (has_first x xs), for_each P xs (λ z h. all z (has_later x xs z h)))

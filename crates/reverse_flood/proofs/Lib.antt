@@ -6,6 +6,7 @@ pub mod StepFacts
 pub mod Worklists
 pub mod FoundFacts
 pub mod OriginFacts
+pub mod OrderFacts
 pub mod WayFacts
 pub mod PartFacts
 pub mod Unique

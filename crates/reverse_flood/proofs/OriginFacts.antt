@@ -17,7 +17,7 @@ use Rattle.std.specs.List.Sorted.{IsStrictlySortedBy}
 use Rattle.reverse_flood.proofs.Ascents.{sorted_map, sorted_parts}
 use Rattle.reverse_flood.proofs.Orders.{lower_router, lower_sig}
 use Rattle.spie_base.proofs.Membership.{has_first, has_later, from_map, into_map, from_flat_map, into_flat_map}
-use Rattle.reverse_flood.proofs.StepFacts.{flat_map_next}
+use Rattle.spie_base.proofs.FlatMaps.{flat_map_next}
 
 -- a router with each origin
 abbrev pub steps_at : List Origin → RouterId → List Node

@@ -11,7 +11,7 @@ use Rattle.spie_base.specs.declared.Sig.{Sig}
 use Rattle.spie_base.specs.Order.{sig_cmp}
 use Rattle.topology.specs.declared.limits.TheConstants.{ROUTERS_MOST}
 use Rattle.reverse_flood.specs.declared.graphs.Node.{Node}
-use Rattle.reverse_flood.specs.Rows.{AreRows, flag_in, has_pair}
+use Rattle.reverse_flood.specs.Rows.{AreRows, KeepsRows, cell_in, cell_of, has_pair}
 use Rattle.reverse_flood.specs.Wider.{node_eq}
 use Rattle.reverse_flood.proofs.Orders.{same_node, node_laws}
 
@@ -65,7 +65,7 @@ rows_more sig row size old new at more rows = record {
       (more_at sig row old new more s);
 }
 
-flag_kept : (flags blank : List Bool) (router : ℕ) (o : Option ℕ) → ((k : ℕ) → o ≡ Some k → k + ROUTERS_MOST ≤ length flags) → router < ROUTERS_MOST → flag_in (flags ++ blank) router o ≡ flag_in flags router o
+flag_kept : (flags blank : List Bool) (router : ℕ) (o : Option ℕ) → ((k : ℕ) → o ≡ Some k → k + ROUTERS_MOST ≤ length flags) → router < ROUTERS_MOST → cell_in false (flags ++ blank) router o ≡ cell_in false flags router o
 flag_kept flags blank router None fit few = refl
 flag_kept flags blank router (Some k) fit few =
     let l = fit k refl in
@@ -78,29 +78,38 @@ rows_same sig row old new flags at none more rows n few =
     ⊎_elim
     (λ i.
     let P : Sig → Type 0 = λ s. old s ≡ None in
-    ap (flag_in (flags ++ replicate ROUTERS_MOST false) r) i.1
+    ap (cell_in false (flags ++ replicate ROUTERS_MOST false) r) i.1
     ∙ ap (λ k. get_or (flags ++ replicate ROUTERS_MOST false) (k + r) false) at
     ∙ get_or-append-add flags (replicate ROUTERS_MOST false) r false
     ∙ get_or-replicate ROUTERS_MOST r false false few
-    ∙ sym (ap (flag_in flags r) (subst P i.0 none)))
-    (λ o. ap (flag_in (flags ++ replicate ROUTERS_MOST false) r) o ∙ flag_kept flags (replicate ROUTERS_MOST false) r (old n.sig) (λ k e. rows.fit n.sig k e) few)
+    ∙ sym (ap (cell_in false flags r) (subst P i.0 none)))
+    (λ o. ap (cell_in false (flags ++ replicate ROUTERS_MOST false) r) o ∙ flag_kept flags (replicate ROUTERS_MOST false) r (old n.sig) (λ k e. rows.fit n.sig k e) few)
     (more_at sig row old new more n.sig)
 
--- one more pair
-pub flag_more : (rows : Sig → Option ℕ) (flags : List Bool) (row : ℕ) (node : Node) → AreRows rows (length flags) → rows node.sig ≡ Some row → node.router.number < ROUTERS_MOST → (n : Node) → n.router.number < ROUTERS_MOST → has_pair rows (set flags (row + node.router.number) true) n ≡ cond (node_eq node n) true (has_pair rows flags n)
-flag_more rows flags row node are is few n small =
+-- a row that is new takes none away
+pub rows_keep : (sig : Sig) (row : ℕ) (old new : Sig → Option ℕ) → old sig ≡ None → ((q : Sig) → new q ≡ cond (is_at (sig_cmp sig) q) (Some row) (old q)) → KeepsRows old new
+rows_keep sig row old new none more s k is =
+    let P : Sig → Type 0 = λ t. old t ≡ None in
+    ⊎_elim
+    (λ i. absurd (not_none k (old s) (subst P i.0 none) is))
+    (λ o. o ∙ is)
+    (more_at sig row old new more s)
+
+-- one more cell is written
+pub cell_more : {X : Type 0} (blank v : X) (rows : Sig → Option ℕ) (cells : List X) (row : ℕ) (node : Node) → AreRows rows (length cells) → rows node.sig ≡ Some row → node.router.number < ROUTERS_MOST → (n : Node) → n.router.number < ROUTERS_MOST → cell_of blank rows (set cells (row + node.router.number) v) n ≡ cond (node_eq node n) v (cell_of blank rows cells n)
+cell_more {X} blank v rows cells row node are is few n small =
     let place = row + node.router.number in
     let l = are.fit node.sig row is in
-    let by : (b : Bool) → node_eq node n ≡ b → has_pair rows (set flags place true) n ≡ cond b true (has_pair rows flags n) =
+    let by : (b : Bool) → node_eq node n ≡ b → cell_of blank rows (set cells place v) n ≡ cond b v (cell_of blank rows cells n) =
     elim [
       | true ↦ λ e.
-          let P : Node → Type 0 = λ m. has_pair rows (set flags place true) m ≡ true in
-          subst P (same_node node n e) (ap (flag_in (set flags place true) node.router.number) is ∙ get_or-set_same flags place true false (omega (arith, l, few)))
+          let P : Node → Type 0 = λ m. cell_of blank rows (set cells place v) m ≡ v in
+          subst P (same_node node n e) (ap (cell_in blank (set cells place v) node.router.number) is ∙ get_or-set_same cells place v blank (omega (arith, l, few)))
       | false ↦ λ e.
-          let other : (o : Option ℕ) → rows n.sig ≡ o → flag_in (set flags place true) n.router.number o ≡ flag_in flags n.router.number o =
+          let other : (o : Option ℕ) → rows n.sig ≡ o → cell_in blank (set cells place v) n.router.number o ≡ cell_in blank cells n.router.number o =
           elim [
             | None ↦ λ _. refl
-            | Some k ↦ λ a. get_or-set_other flags place (k + n.router.number) true false (λ (hit : k + n.router.number ≡ place).
+            | Some k ↦ λ a. get_or-set_other cells place (k + n.router.number) v blank (λ (hit : k + n.router.number ≡ place).
                 let differ : ((row + ROUTERS_MOST ≤ k) ⊎ (k + ROUTERS_MOST ≤ row)) → ⊥ = ⊎_elim (λ x. omega (arith, x, hit, few, small)) (λ x. omega (arith, x, hit, few, small)) in
                 ⊎_elim
                 (λ (s : node.sig ≡ n.sig).
@@ -117,3 +126,15 @@ flag_more rows flags row node are is few n small =
           other (rows n.sig) refl
     ] in
     by (node_eq node n) refl
+
+-- one more pair
+pub flag_more : (rows : Sig → Option ℕ) (flags : List Bool) (row : ℕ) (node : Node) → AreRows rows (length flags) → rows node.sig ≡ Some row → node.router.number < ROUTERS_MOST → (n : Node) → n.router.number < ROUTERS_MOST → has_pair rows (set flags (row + node.router.number) true) n ≡ cond (node_eq node n) true (has_pair rows flags n)
+flag_more rows flags row node are is few n small = cell_more false true rows flags row node are is few n small
+
+-- cells that are all blank
+pub cell_blank : {X : Type 0} (rows : Sig → Option ℕ) (size : ℕ) (blank : X) (n : Node) → n.router.number < ROUTERS_MOST → AreRows rows size → cell_of blank rows (replicate size blank) n ≡ blank
+cell_blank {X} rows size blank n few are = by (rows n.sig) refl
+  where
+    by : (o : Option ℕ) → rows n.sig ≡ o → cell_in blank (replicate size blank) n.router.number o ≡ blank
+    by None e = refl
+    by (Some k) e = let l = are.fit n.sig k e in get_or-replicate size (k + n.router.number) blank blank (omega (arith, l, few))

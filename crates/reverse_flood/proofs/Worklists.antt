@@ -1,7 +1,7 @@
 -- The asked pairs, as the list of them grows.
 use Rattle.std.proofs.lemmas.List.Elements.{filter_more}
 use Rattle.std.proofs.lemmas.Bool.{false≢true}
-use Rattle.std.proofs.Common.{◌≡◌, ℕ, ◌+◌, ◌<◌, ◌≤◌, Bool, true, false, cond, ◌∷◌, [], ◌++◌, ◌⊎◌, ◌↔◌, sym, refl, subst, ap, ◌∙◌, inl, inr, ⊎_elim, List, length, take, get_or, arith, append_assoc, append-nil, IsTrue}
+use Rattle.std.proofs.Common.{◌≡◌, ℕ, ◌+◌, ◌<◌, ◌≤◌, Bool, true, false, cond, ◌∷◌, [], ◌++◌, ◌↔◌, sym, refl, subst, ap, ◌∙◌, inl, inr, ⊎_elim, List, length, take, get_or, arith, append_assoc, append-nil, IsTrue}
 use Rattle.std.specs.List.{Contains, filter, flat_map}
 use Rattle.std.proofs.lemmas.List.{take_more, take-append-le, length-append, map-append}
 use Rattle.std.proofs.Math.Seq.{take-length}
@@ -12,8 +12,8 @@ use Rattle.spie_base.specs.declared.RouterId.{RouterId}
 use Rattle.reverse_flood.specs.declared.graphs.Node.{Node}
 use Rattle.reverse_flood.specs.Flood.{Net, IsHit, IsInside, IsStep, IsChain, IsNode, IsNext, IsAsked}
 use Rattle.reverse_flood.specs.Wider.{has_node, add_new, add_all, pair_with, pairs_with, IsVisited}
-use Rattle.spie_base.proofs.Membership.{has_none, has_first, has_later, has_cases, has_one, from_filter, into_filter, from_map, into_map, from_flat_map, into_flat_map}
-use Rattle.reverse_flood.proofs.StepFacts.{flat_map_next}
+use Rattle.spie_base.proofs.Membership.{has_none, has_first, has_later, has_cases, has_one, from_map, into_map, from_flat_map, into_flat_map}
+use Rattle.spie_base.proofs.FlatMaps.{flat_map_next}
 use Rattle.reverse_flood.proofs.Orders.{same_node, node_laws}
 
 -- one more pair at the end of those to add
@@ -168,43 +168,6 @@ pub progress_done : (net : Net) (inside : ℕ → Bool) (entries asked : List No
 progress_done net inside entries asked next progress all n =
     (progress.sound n, asked_closed net inside entries (λ m. Contains asked m) (progress_closed net inside entries asked next progress all) n)
 
--- a turn of the loop that adds the pairs inside
-pub add_more : (p : Node → Bool) (xs ns : List Node) (i : ℕ) (d : Node) (before after : List Node) → i < length ns → before ≡ add_all xs (filter p (take i ns)) → ((p (get_or ns i d) ≡ true) × (after ≡ add_new before (get_or ns i d))) ⊎ ((p (get_or ns i d) ≡ false) × (after ≡ before)) → after ≡ add_all xs (filter p (take (i + 1) ns))
-add_more p xs ns i d before after l so_far cases =
-    let x = get_or ns i d in
-    let done = filter p (take i ns) in
-    let next : (b : Bool) → p x ≡ b → filter p (take (i + 1) ns) ≡ done ++ cond b (x ∷ []) [] =
-    λ b e. filter_more p ns i d l ∙ ap (λ v. done ++ cond v (x ∷ []) []) e in
-    ⊎_elim
-    (λ yes. yes.1 ∙ ap (λ (l : List Node). add_new l x) so_far ∙ sym (add_all-push xs done x) ∙ sym (ap (add_all xs) (next true yes.0)))
-    (λ no. no.1 ∙ so_far ∙ sym (ap (add_all xs) (append-nil done)) ∙ sym (ap (add_all xs) (next false no.0)))
-    cases
-
--- all entries are in at the start
-pub entered_all : (entries start asked : List Node) → start ≡ [] → asked ≡ add_all start (filter (λ _. true) entries) → (n : Node) → Contains asked n ↔ Contains entries n
-entered_all entries start asked none is n =
-    let e = add_all_extends start (filter (λ _. true) entries) in
-    let Has : List Node → Type 0 = λ l. Contains l n in
-    let after = subst Has is in (
-      (λ h. ⊎_elim
-          (λ s. absurd (has_none n (subst Has none s)))
-          (λ a. (from_filter (λ _. true) entries n (e.only n a)).0)
-          (Contains-append_cases start e.added n (subst Has e.kept (subst Has is h)))),
-      (λ h. subst Has (sym is) (e.all n (into_filter (λ _. true) entries n h refl))),
-    )
-
--- a pair that is hit was asked
-pub visited_hit : (net : Net) (inside : ℕ → Bool) (before : List Node) (node : Node) (after steps : List Node) → IsHit net node → ((n : Node) → Contains steps n ↔ IsStep net node n) → after ≡ add_all before (filter (λ n. inside n.router.number) steps) → IsVisited net inside before node after
-visited_hit net inside before node after steps hit same is =
-    let p : Node → Bool = λ n. inside n.router.number in
-    let e = add_all_extends before (filter p steps) in
-    record {
-      added = e.added;
-      kept = is ∙ e.kept;
-      only = λ n a. let f = from_filter p steps n (e.only n a) in (hit, (same n).0 f.0, f.1);
-      all = λ n _ step within. let Has : List Node → Type 0 = λ l. Contains l n in subst Has (sym is) (e.all n (into_filter p steps n ((same n).1 step) within));
-    }
-
 -- a pair that is no hit was asked
 pub visited_unseen : (net : Net) (inside : ℕ → Bool) (before : List Node) (node : Node) → net.hit node ≡ false → IsVisited net inside before node before
 visited_unseen net inside before node unseen = record {
@@ -213,13 +176,6 @@ visited_unseen net inside before node unseen = record {
   only = λ n a. absurd (has_none n a);
   all = λ n hit _ _. absurd (false≢true (sym unseen ∙ hit));
 }
-
--- the routers of the pairs exist
-pub exist_more : (routers : ℕ) (p : Node → Bool) (before after steps : List Node) → after ≡ add_all before (filter p steps) → ((n : Node) → Contains before n → n.router.number < routers) → ((n : Node) → Contains steps n → n.router.number < routers) → (n : Node) → Contains after n → n.router.number < routers
-exist_more routers p before after steps is old new n h =
-    let e = add_all_extends before (filter p steps) in
-    let Has : List Node → Type 0 = λ l. Contains l n in
-    ⊎_elim (old n) (λ a. new n (from_filter p steps n (e.only n a)).0) (Contains-append_cases before e.added n (subst Has (is ∙ e.kept) h))
 
 -- a turn of the loop that adds each of some pairs
 pub add_next : (xs ns : List Node) (i : ℕ) (d : Node) (before after : List Node) → i < length ns → before ≡ add_all xs (take i ns) → after ≡ add_new before (get_or ns i d) → after ≡ add_all xs (take (i + 1) ns)
@@ -236,12 +192,17 @@ add_all-append xs [] ms = refl
 add_all-append xs (n ∷ ns) ms = add_all-append (add_new xs n) ns ms
 
 -- a turn of the loop over routers
-pub beside_next : (xs : List Node) (near : List RouterId) (sig : Sig) (i : ℕ) (d : RouterId) (before after : List Node) → i < length near → before ≡ add_all xs (pairs_with (take i near) sig) → after ≡ add_new before (pair_with sig (get_or near i d)) → after ≡ add_all xs (pairs_with (take (i + 1) near) sig)
-beside_next xs near sig i d before after l so_far is =
-    is ∙ ap (λ (b : List Node). add_new b (pair_with sig (get_or near i d))) so_far
-    ∙ sym (add_all-push xs (pairs_with (take i near) sig) (pair_with sig (get_or near i d)))
-    ∙ sym (ap (add_all xs) (map-append (pair_with sig) (take i near) (get_or near i d ∷ [])))
-    ∙ sym (ap (λ (rs : List RouterId). add_all xs (pairs_with rs sig)) (take_more near i d l))
+pub beside_next : (p : RouterId → Bool) (xs : List Node) (near : List RouterId) (sig : Sig) (i : ℕ) (d : RouterId) (before after : List Node) → i < length near → before ≡ add_all xs (pairs_with (filter p (take i near)) sig) → after ≡ cond (p (get_or near i d)) (add_new before (pair_with sig (get_or near i d))) before → after ≡ add_all xs (pairs_with (filter p (take (i + 1) near)) sig)
+beside_next p xs near sig i d before after l so_far is =
+    let r = get_or near i d in
+    let done = filter p (take i near) in
+    let by : (b : Bool) → cond b (add_new (add_all xs (pairs_with done sig)) (pair_with sig r)) (add_all xs (pairs_with done sig)) ≡ add_all xs (pairs_with (done ++ cond b (r ∷ []) []) sig) =
+    elim [
+      | true ↦ sym (add_all-push xs (pairs_with done sig) (pair_with sig r)) ∙ sym (ap (add_all xs) (map-append (pair_with sig) done (r ∷ [])))
+      | false ↦ sym (ap (λ (rs : List RouterId). add_all xs (pairs_with rs sig)) (append-nil done))
+    ] in
+    is ∙ ap (λ (b : List Node). cond (p r) (add_new b (pair_with sig r)) b) so_far ∙ by (p r)
+    ∙ sym (ap (λ (rs : List RouterId). add_all xs (pairs_with rs sig)) (filter_more p near i d l))
 
 -- a turn of the loop over signatures
 pub steps_next : (xs : List Node) (near : List RouterId) (sigs : List Sig) (i : ℕ) (d : Sig) (before after : List Node) → i < length sigs → before ≡ add_all xs (flat_map (pairs_with near) (take i sigs)) → after ≡ add_all before (pairs_with near (get_or sigs i d)) → after ≡ add_all xs (flat_map (pairs_with near) (take (i + 1) sigs))

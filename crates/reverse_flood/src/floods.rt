@@ -6,15 +6,18 @@ ghost use Rattle.reverse_flood.specs.declared.graphs.Graph.{Graph};
 ghost use Rattle.reverse_flood.specs.declared.graphs.Node.{Node};
 
 use crate::asks::ask;
-use crate::ways::{tell_apart, ways_from};
+use crate::index::index_of;
+use crate::order::in_order;
+use crate::ways::{tell_apart, ways_from, without_rows};
 use crate::{Graph, Node, Part};
-use spie_base::{List, NoMemory, Sighting, ascending};
+use spie_base::{List, NoMemory, Sighting};
 use std::alloc::Global;
 use topology::Topology;
 
 /// The flood from all of some entries at once: to all routers, or within the region `within` alone.
 /// There is one sight of each router, in the order of the routers. Costs one `hit` of each asked pair,
-/// the `origins` of each node, and time that is about linear in the asked pairs and the steps from nodes.
+/// the `origins` of each node, time that is linear in the asked pairs and the steps from nodes, a read for
+/// each router and signature, and a look-up in an ordered map for each origin that is not the pair's own signature.
 pub fn flood_within<S: Sighting>(
     alloc: Global,
     topology: &Topology,
@@ -28,12 +31,13 @@ pub fn flood_within<S: Sighting>(
         (IsPart (net_of S.shown sights.now topology.now) (is_within topology.now within) entries.now) }
 {
     let search = ask(alloc, topology, sights, within, entries)?;
-    let found = search.found;
-    let asked = ascending(search.asked);
-    let told = tell_apart(alloc, sights, &found, asked.items())?;
-    let ways = ways_from(alloc, topology, &found, &search.hits, within, &told.nodes)?;
+    let asked = in_order(alloc, topology, &search.asked.pairs)?;
+    let index = index_of(alloc, search.asked, search.found)?;
+    let told = tell_apart(alloc, sights, &index, &asked)?;
+    let ways = ways_from(alloc, topology, &index, within, &told.nodes)?;
+    let nodes = without_rows(alloc, &told.nodes)?;
     Ok(Part {
-        nodes: List::of(told.nodes),
+        nodes: List::of(nodes),
         edges: List::of(ways.inner),
         unknown: List::of(told.unknown),
         clear: List::of(told.clear),

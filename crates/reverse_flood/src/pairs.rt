@@ -2,7 +2,7 @@
 ghost use Rattle.std.specs.Prelude.{◌≡◌, ◌<◌, Some, cond, not, true, false, length, IfOk, OnOk};
 ghost use Rattle.std.specs.BTreeMap.{get};
 ghost use Rattle.spie_base.specs.Order.{sig_cmp};
-ghost use Rattle.reverse_flood.specs.Rows.{has_pair, is_in, AreRows};
+ghost use Rattle.reverse_flood.specs.Rows.{has_pair, AreRows, KeepsRows};
 ghost use Rattle.reverse_flood.specs.Wider.{node_eq};
 ghost use Rattle.reverse_flood.specs.declared.graphs.Node.{Node};
 
@@ -38,6 +38,7 @@ pub(crate) fn row_of(pairs: &mut Pairs, sig: &Sig) -> Result<usize, NoMemory>
     ensures rows { OnOk result (AreRows (get sig_cmp pairs.new.rows) (length pairs.new.flags.items)) }
     ensures same { OnOk result ((n : Node) → n.router.number < ROUTERS_MOST → has_pair (get sig_cmp pairs.new.rows) pairs.new.flags.items n ≡ has_pair (get sig_cmp pairs.old.rows) pairs.old.flags.items n) }
     ensures row { IfOk result (λ row. get sig_cmp pairs.new.rows sig.now ≡ Some row) }
+    ensures kept { OnOk result (KeepsRows (get sig_cmp pairs.old.rows) (get sig_cmp pairs.new.rows)) }
 {
     if let Some(row) = pairs.rows.get(sig) {
         return Ok(*row);
@@ -72,29 +73,4 @@ pub(crate) fn add(pairs: &mut Pairs, row: usize, node: &Node) -> bool
     let new = !pairs.flags[place];
     pairs.flags[place] = true;
     new
-}
-
-/// Adds a pair, if it is not there.
-pub(crate) fn note(pairs: &mut Pairs, node: &Node) -> Result<(), NoMemory>
-    requires rows { AreRows (get sig_cmp pairs.old.rows) (length pairs.old.flags.items) }
-    requires few { node.now.router.number < ROUTERS_MOST }
-    ensures rows { OnOk result (AreRows (get sig_cmp pairs.new.rows) (length pairs.new.flags.items)) }
-    ensures added { OnOk result ((n : Node) → n.router.number < ROUTERS_MOST → is_in pairs.new n ≡ cond (node_eq node.now n) true (is_in pairs.old n)) }
-{
-    let row = row_of(pairs, &node.sig)?;
-    let _new = add(pairs, row, node);
-    Ok(())
-}
-
-/// Whether the set has a pair, by the row of its signature, where that has one.
-pub(crate) fn has_at(pairs: &Pairs, row: Option<usize>, node: &Node) -> bool
-    requires rows { AreRows (get sig_cmp pairs.now.rows) (length pairs.now.flags.items) }
-    requires row { get sig_cmp pairs.now.rows node.now.sig ≡ row }
-    requires few { node.now.router.number < ROUTERS_MOST }
-    ensures { result ≡ is_in pairs.now node.now }
-{
-    match row {
-        Some(row) => has(pairs, row, node),
-        None => false,
-    }
 }

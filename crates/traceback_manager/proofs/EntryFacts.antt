@@ -8,7 +8,7 @@ use Rattle.std.proofs.Math.Seq.{take-length}
 use Rattle.spie_base.proofs.Membership.{has_none, has_one}
 use Rattle.reverse_flood.specs.declared.graphs.Node.{Node}
 use Rattle.reverse_flood.specs.declared.graphs.Edge.{Edge}
-use Rattle.reverse_flood.proofs.StepFacts.{flat_map_next, flat_map_done}
+use Rattle.spie_base.proofs.FlatMaps.{flat_map_next, flat_map_done}
 use Rattle.regional_agent.specs.declared.answers.RegionAnswer.{RegionAnswer}
 use Rattle.traceback_manager.specs.declared.pairs.Pairs.{Pairs}
 use Rattle.traceback_manager.specs.declared.entries.Entries.{Entries}
