@@ -10,6 +10,7 @@ use Rattle.std.specs.declared.cmp.Ordering.TheVariants.{Less, Equal, Greater}
 use Rattle.std.proofs.lemmas.Cmp.{on_total}
 use Rattle.std.proofs.lemmas.Map.Lookups.{exact_bytes}
 use Rattle.spie_base.proofs.Membership.{has_none, has_first, has_later, has_cases, has_one}
+use Rattle.spie_base.proofs.SortedLists.{of_each, sorted_same}
 use Rattle.spie_base.specs.Order.{sig_cmp}
 use Rattle.spie_base.specs.declared.Sig.{Sig}
 use Rattle.data_agent.specs.Seeing.{put_at, put_in, in_order}
@@ -19,39 +20,6 @@ sigs_total = on_total (λ (s : Sig). s.bytes) nat_list_cmp_total
 
 same_sig : (a b : Sig) → sig_cmp a b ≡ Equal → a ≡ b
 same_sig a b e = let S : List ℕ → Sig = λ bytes. record { bytes = bytes } in ap S (exact_bytes a.bytes b.bytes e)
-
--- ---- two lists
-
-not_both : (x y : Sig) → sig_cmp x y ≡ Less → sig_cmp y x ≡ Less → ⊥
-not_both x y below above = let e : Less ≡ Greater = sym below ∙ sigs_total.antisymm x y ∙ ap ordering_reverse above in cc
-
-of_each : (P : Sig → Type 0) (xs : List Sig) (z : Sig) → AllByRecursion P xs → Contains xs z → P z
-of_each P [] z all h = absurd (has_none z h)
-of_each P (x ∷ xs) z all h = ⊎_elim (λ e. subst P e all.0) (λ later. of_each P xs z all.1 later) (has_cases x xs z h)
-
-pub sorted_same : (xs ys : List Sig) → IsStrictlySortedBy sig_cmp xs → IsStrictlySortedBy sig_cmp ys → ((z : Sig) → Contains xs z ↔ Contains ys z) → xs ≡ ys
-unfolding IsStrictlySortedBy
-sorted_same [] [] s t same = refl
-sorted_same [] (y ∷ ys) s t same = absurd (has_none y ((same y).1 (has_first y ys)))
-sorted_same (x ∷ xs) [] s t same = absurd (has_none x ((same x).0 (has_first x xs)))
-sorted_same (x ∷ xs) (y ∷ ys) s t same =
-    let above_x : (z : Sig) → Contains xs z → sig_cmp x z ≡ Less = λ z h. of_each (λ w. sig_cmp x w ≡ Less) xs z s.0 h in
-    let above_y : (z : Sig) → Contains ys z → sig_cmp y z ≡ Less = λ z h. of_each (λ w. sig_cmp y w ≡ Less) ys z t.0 h in
-    let head : x ≡ y = ⊎_elim
-    (λ e. sym e)
-    (λ x_later. ⊎_elim (λ e. e) (λ y_later. absurd (not_both x y (above_x y y_later) (above_y x x_later))) (has_cases x xs y ((same y).1 (has_first y ys))))
-    (has_cases y ys x ((same x).0 (has_first x xs))) in
-    let tails : (z : Sig) → Contains xs z ↔ Contains ys z = λ z. (
-      (λ h. ⊎_elim
-          (λ e. let itself : sig_cmp x x ≡ Less = subst (λ w. sig_cmp x w ≡ Less) (sym (head ∙ e)) (above_x z h) in absurd (not_both x x itself itself))
-          (λ later. later)
-          (has_cases y ys z ((same z).0 (has_later x xs z h)))),
-      (λ h. ⊎_elim
-          (λ e. let itself : sig_cmp y y ≡ Less = subst (λ w. sig_cmp y w ≡ Less) (sym e ∙ head) (above_y z h) in absurd (not_both y y itself itself))
-          (λ later. later)
-          (has_cases x xs z ((same z).1 (has_later y ys z h)))),
-    ) in
-    ap (λ v. v ∷ xs) head ∙ ap (λ l. y ∷ l) (sorted_same xs ys s.1 t.1 tails)
 
 -- ---- one more signature
 
@@ -105,4 +73,4 @@ order_sorted (sig ∷ sigs) = put_sorted sig (in_order sigs) (order_sorted sigs)
 
 -- what is ascending and has these members
 pub order_is : (found sigs : List Sig) → IsStrictlySortedBy sig_cmp found → ((z : Sig) → Contains found z ↔ Contains sigs z) → found ≡ in_order sigs
-order_is found sigs sorted same = sorted_same found (in_order sigs) sorted (order_sorted sigs) (λ z. ((λ h. (order_has sigs z).1 ((same z).0 h)), λ h. (same z).1 ((order_has sigs z).0 h)))
+order_is found sigs sorted same = sorted_same sig_cmp sigs_total found (in_order sigs) sorted (order_sorted sigs) (λ z. ((λ h. (order_has sigs z).1 ((same z).0 h)), λ h. (same z).1 ((order_has sigs z).0 h)))

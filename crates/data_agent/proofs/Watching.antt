@@ -1,10 +1,9 @@
 -- What a watch answers, by the pages in memory.
-use Rattle.std.proofs.Common.{ℕ, ◌≡◌, ◌≤◌, ◌<◌, ◌∙◌, List, [], get_or, Bool, true, false, not, ◌&&◌, ◌||◌, sym, ap, arith, inl, inr}
+use Rattle.std.proofs.Common.{ℕ, ◌≡◌, ◌≤◌, ◌<◌, ◌∙◌, List, get_or, Bool, true, false, not, ◌&&◌, ◌||◌, sym, ap, refl, arith, inl, inr}
 use Rattle.std.specs.List.{Contains, list_any}
-use Rattle.std.proofs.lemmas.Bool.{cases_lt}
+use Rattle.std.proofs.lemmas.Bool.{cases_lt, false≢true}
 use Rattle.std.proofs.lemmas.List.{get_or_default}
 use Rattle.std.proofs.lemmas.List.Folds.{list_any_at, list_any_none}
-use Rattle.spie_base.proofs.Booleans.{both_hold, and_false, or_false}
 use Rattle.spie_base.specs.Shapes.{shape_of}
 use Rattle.spie_base.specs.declared.Rules.{Rules}
 use Rattle.spie_base.specs.declared.Sig.{Sig}
@@ -13,12 +12,13 @@ use Rattle.hash_family.proofs.PositionFacts.{marks_of-family}
 use Rattle.bloom_page.specs.Sets.{are_in, is_in}
 use Rattle.router_account.specs.declared.words.Watch.TheVariants.{Seen}
 use Rattle.router_account.specs.Account.{Account, bits, window}
-use Rattle.router_account.specs.Ledger.{Ledger, Unfinished, was_expired}
+use Rattle.router_account.specs.Ledger.{Ledger}
 use Rattle.router_account.specs.Watches.{is_missing_now, misses, shows as is_shown_in, is_shown, watch_word, watch_of}
 use Rattle.data_agent.specs.declared.agent.Agent.{Agent}
 use Rattle.data_agent.specs.declared.resident.Resident.{Resident}
 use Rattle.data_agent.specs.Residents.{IsResident, shows}
-use Rattle.data_agent.specs.Standing.{StandsFor}
+use Rattle.data_agent.specs.Standing.{Stands}
+use Rattle.data_agent.specs.Watching.{IsLacking, shows_now}
 use Rattle.data_agent.proofs.Windows.{IsWindow, page_gone, page_live}
 
 -- a page shows a signature where what was recorded in it does
@@ -34,38 +34,64 @@ any_has p xs x (i, within, is) holds = list_any_at p xs i x within (ap p is ∙ 
 pub none_has : {X : Type 0} (p : X → Bool) (xs : List X) → ((x : X) → Contains xs x → p x ≡ false) → list_any p xs ≡ false
 none_has p xs none = list_any_none p xs (λ i d within. none (get_or xs i d) (i, within, get_or_default xs i (get_or xs i d) d within))
 
--- only expired pages are missing
-missing_is : (l : Ledger) (rules : Rules) (page : ℕ) → l.put_before ≡ [] → is_missing_now rules l page ≡ was_expired rules l page
-missing_is l rules page none = ap (λ put. was_expired rules l page || is_in put page) none ∙ or_false (was_expired rules l page)
+-- a page that has not expired is missing where it was put, and one that has expired is missing
+missing_near : (agent : Agent) (rules : Rules) (l : Ledger) (page : ℕ) → Stands agent rules l → agent.catalogue.gone ≤ page → is_missing_now rules l page ≡ is_in l.put_before page
+missing_near agent rules l page s near = ap (λ b. b || is_in l.put_before page) (page_live agent rules l s.expired page near)
 
-pub seen_by : (agent : Agent) (rules : Rules) (l : Ledger) (u : Unfinished) (time : ℕ) (sig : Sig) (first last page : ℕ) → StandsFor agent rules l u → IsWindow rules l.account time first last
-    → first ≤ page → page ≤ last → agent.catalogue.gone ≤ page → is_shown_in rules l.account sig page ≡ true → watch_of rules l time sig ≡ Seen
-seen_by agent rules l u time sig first last page s w from to near shown =
-    let live : is_missing_now rules l page ≡ false = missing_is l rules page s.plain.put ∙ page_live agent rules l s.expired page near in
+missing_gone : (agent : Agent) (rules : Rules) (l : Ledger) (page : ℕ) → Stands agent rules l → page < agent.catalogue.gone → is_missing_now rules l page ≡ true
+missing_gone agent rules l page s gone = ap (λ b. b || is_in l.put_before page) (page_gone agent rules l s.expired page gone)
+
+shown_near : (agent : Agent) (rules : Rules) (l : Ledger) (sig : Sig) (page : ℕ) → Stands agent rules l → agent.catalogue.gone ≤ page → (not (is_missing_now rules l page) && is_shown_in rules l.account sig page) ≡ shows_now rules l sig page
+shown_near agent rules l sig page s near = ap (λ b. not b && is_shown_in rules l.account sig page) (missing_near agent rules l page s near)
+
+-- what is found shows what is in memory
+pub shows_found : (rules : Rules) (l : Ledger) (sig : Sig) (page : ℕ) (r : Resident) → (is_in l.put_before page ≡ false) × IsResident rules l.account page r → shows r sig ≡ shows_now rules l sig page
+shows_found rules l sig page r (unput, is) = same_shows rules l.account page r sig is ∙ ap (λ b. not b && is_shown_in rules l.account sig page) (sym unput)
+
+pub shows_put : (rules : Rules) (l : Ledger) (sig : Sig) (page : ℕ) → is_in l.put_before page ≡ true → false ≡ shows_now rules l sig page
+shows_put rules l sig page put = ap (λ b. not b && is_shown_in rules l.account sig page) (sym put)
+
+pub seen_by : (agent : Agent) (rules : Rules) (l : Ledger) (time : ℕ) (sig : Sig) (first last page : ℕ) → Stands agent rules l → IsWindow rules l.account time first last
+    → first ≤ page → page ≤ last → agent.catalogue.gone ≤ page → shows_now rules l sig page ≡ true → watch_of rules l time sig ≡ Seen
+seen_by agent rules l time sig first last page s w from to near shown =
     let any : is_shown rules l l.account time sig ≡ true =
-    any_has (λ p. not (is_missing_now rules l p) && is_shown_in rules l.account sig p) (window rules l.account time) page (w.inside page from to)
-    (both_hold (not (is_missing_now rules l page)) (is_shown_in rules l.account sig page) (ap not live) shown) in
+    any_has (λ p. not (is_missing_now rules l p) && is_shown_in rules l.account sig p) (window rules l.account time) page (w.inside page from to) (shown_near agent rules l sig page s near ∙ shown) in
     ap (λ b. watch_word b (misses rules l time)) any
 
-pub unseen_by : (agent : Agent) (rules : Rules) (l : Ledger) (u : Unfinished) (time : ℕ) (sig : Sig) (first last : ℕ) → StandsFor agent rules l u → IsWindow rules l.account time first last
-    → ((page : ℕ) → first ≤ page → page ≤ last → agent.catalogue.gone ≤ page → is_shown_in rules l.account sig page ≡ false) → is_shown rules l l.account time sig ≡ false
-unseen_by agent rules l u time sig first last s w none =
+pub unseen_by : (agent : Agent) (rules : Rules) (l : Ledger) (time : ℕ) (sig : Sig) (first last : ℕ) → Stands agent rules l → IsWindow rules l.account time first last
+    → ((page : ℕ) → first ≤ page → page ≤ last → agent.catalogue.gone ≤ page → shows_now rules l sig page ≡ false) → is_shown rules l l.account time sig ≡ false
+unseen_by agent rules l time sig first last s w none =
     none_has (λ p. not (is_missing_now rules l p) && is_shown_in rules l.account sig p) (window rules l.account time) (λ page has.
     let (from, to) = w.outside page has in
     elim (cases_lt page agent.catalogue.gone) [
-      | inl gone ↦ ap (λ b. not b && is_shown_in rules l.account sig page) (missing_is l rules page s.plain.put ∙ page_gone agent rules l s.expired page gone)
-      | inr near ↦ ap (λ b. not (is_missing_now rules l page) && b) (none page from to near) ∙ and_false (not (is_missing_now rules l page))
+      | inl gone ↦ ap (λ b. not b && is_shown_in rules l.account sig page) (missing_gone agent rules l page s gone)
+      | inr near ↦ shown_near agent rules l sig page s near ∙ none page from to near
     ])
 
-pub misses_by : (agent : Agent) (rules : Rules) (l : Ledger) (u : Unfinished) (time first last : ℕ) → StandsFor agent rules l u → IsWindow rules l.account time first last → first < agent.catalogue.gone → misses rules l time ≡ true
-misses_by agent rules l u time first last s w gone =
-    any_has (is_missing_now rules l) (window rules l.account time) first (w.inside first (omega arith) w.some) (missing_is l rules first s.plain.put ∙ page_gone agent rules l s.expired first gone)
+-- ---- what is missing
 
-pub misses_none : (agent : Agent) (rules : Rules) (l : Ledger) (u : Unfinished) (time first last : ℕ) → StandsFor agent rules l u → IsWindow rules l.account time first last → agent.catalogue.gone ≤ first → misses rules l time ≡ false
-misses_none agent rules l u time first last s w near =
-    none_has (is_missing_now rules l) (window rules l.account time) (λ page has.
-    let (from, to) = w.outside page has in
-    missing_is l rules page s.plain.put ∙ page_live agent rules l s.expired page (omega arith))
+pub lacking_gone : (agent : Agent) (rules : Rules) (l : Ledger) (first last : ℕ) → Stands agent rules l → first ≤ last → first < agent.catalogue.gone → IsLacking rules l first last true
+lacking_gone agent rules l first last s some gone = record {
+  one = λ e. (first, omega arith, some, missing_gone agent rules l first s gone);
+  none = λ e. absurd (false≢true (sym e));
+}
 
-pub watched : (rules : Rules) (l : Ledger) (time : ℕ) (sig : Sig) (missing : Bool) → is_shown rules l l.account time sig ≡ false → misses rules l time ≡ missing → watch_of rules l time sig ≡ watch_word false missing
-watched rules l time sig missing shown lacks = ap (λ b. watch_word b (misses rules l time)) shown ∙ ap (watch_word false) lacks
+pub lacking_put : (agent : Agent) (rules : Rules) (l : Ledger) (first last page : ℕ) → Stands agent rules l → first ≤ page → page ≤ last → agent.catalogue.gone ≤ first → is_in l.put_before page ≡ true → IsLacking rules l first last true
+lacking_put agent rules l first last page s from to near put = record {
+  one = λ e. (page, from, to, missing_near agent rules l page s (omega arith) ∙ put);
+  none = λ e. absurd (false≢true (sym e));
+}
+
+pub lacking_none : (agent : Agent) (rules : Rules) (l : Ledger) (first last : ℕ) → Stands agent rules l → agent.catalogue.gone ≤ first → ((page : ℕ) → first ≤ page → page ≤ last → is_in l.put_before page ≡ false) → IsLacking rules l first last false
+lacking_none agent rules l first last s near unput = record {
+  one = λ e. absurd (false≢true e);
+  none = λ e page from to. missing_near agent rules l page s (omega arith) ∙ unput page from to;
+}
+
+misses_is : (rules : Rules) (l : Ledger) (time first last : ℕ) (said : Bool) → IsWindow rules l.account time first last → IsLacking rules l first last said → misses rules l time ≡ said
+misses_is rules l time first last true w lacks = let (page, from, to, is) = lacks.one refl in any_has (is_missing_now rules l) (window rules l.account time) page (w.inside page from to) is
+misses_is rules l time first last false w lacks = none_has (is_missing_now rules l) (window rules l.account time) (λ page has. let (from, to) = w.outside page has in lacks.none refl page from to)
+
+pub watched : (rules : Rules) (l : Ledger) (time first last : ℕ) (sig : Sig) (missing : Bool) → IsWindow rules l.account time first last → is_shown rules l l.account time sig ≡ false → IsLacking rules l first last missing
+    → watch_of rules l time sig ≡ watch_word false missing
+watched rules l time first last sig missing w shown lacks = ap (λ b. watch_word b (misses rules l time)) shown ∙ ap (watch_word false) (misses_is rules l time first last missing w lacks)

@@ -1,5 +1,10 @@
+pub mod Archiving
 pub mod Calls
+pub mod Expiring
+pub mod Finishing
+pub mod Looking
 pub mod Passing
 pub mod Residents
 pub mod Seeing
 pub mod Standing
+pub mod Watching

@@ -25,10 +25,6 @@ IsDueBits rules a clock (Some bits) = (bits ≡ fill rules a (open_page a.closin
 abbrev pub ticked_at : Rules → Ledger → (clock : ℕ) → (tick : Bool) → Ledger
 ticked_at rules l clock tick = record l { account = if tick then after_tick rules l.account clock else l.account }
 
--- pages were expired at this clock
-abbrev pub expired_at : Ledger → (clock : ℕ) → Ledger
-expired_at l clock = record l { closings_then = l.account.closings; clock_then = clock }
-
 -- and the agent stands for that, and tells which page was closed
 pub record IsTicked (rules : Rules) (l : Ledger) (u : Unfinished) (clock : ℕ) (tick : Bool) (closed : Option Closed) (after : Agent) : Type 0 where
   pub told : option_map closing_of closed ≡ closing_at rules l clock tick

@@ -4,7 +4,7 @@ use Rattle.spie_base.specs.Shapes.{shape_of}
 use Rattle.spie_base.specs.declared.Rules.{Rules}
 use Rattle.spie_base.specs.declared.Sig.{Sig}
 use Rattle.hash_family.specs.Positions.{family_of, positions_by}
-use Rattle.bloom_page.specs.Sets.{are_in, united}
+use Rattle.bloom_page.specs.Sets.{PageSet, are_in, united}
 use Rattle.router_account.specs.Account.{Account, page_set}
 use Rattle.data_agent.specs.declared.resident.Resident.{Resident}
 
@@ -12,6 +12,11 @@ use Rattle.data_agent.specs.declared.resident.Resident.{Resident}
 pub record IsFresh (rules : Rules) (router page : ℕ) (r : Resident) : Type 0 where
   pub family : r.family ≡ family_of (shape_of rules router) page
   pub empty : r.page ≡ record { n = rules.n; members = [] }
+
+-- a page of a router that has these bits
+pub record IsRead (rules : Rules) (router page : ℕ) (bits : PageSet) (r : Resident) : Type 0 where
+  pub family : r.family ≡ family_of (shape_of rules router) page
+  pub bits_are : r.page ≡ bits
 
 -- a page with the marks of one more signature
 pub record Records (before after : Resident) (sig : Sig) : Type 0 where

@@ -1,9 +1,10 @@
 // The agent of one router: recording, and opening the next page.
 //
-// A page in memory is one value with its hash functions. The closed pages in memory are those that have not expired,
-// in order, so a page's number is its place behind the expired ones.
+// A page in memory is one value with its hash functions. The agent has a place for each closed page that has not
+// expired, in order, so a page's number is its place behind the expired ones.
 ghost use Rattle.std.specs.Prelude.{◌≡◌, ◌<◌, ◌≤◌, ◌+◌, ◌-◌, ◌^◌, ℕ, IfOk, OnOk, OnErr, length};
 ghost use Rattle.spie_base.specs.Shapes.{AreInRange};
+ghost use Rattle.archive_record.specs.Spelling.{IsPlainRow};
 ghost use Rattle.spie_base.specs.declared.Rules.{Rules as TheRules};
 ghost use Rattle.page_catalogue.specs.Pages.{open_page};
 ghost use Rattle.router_account.specs.Ledger.{Ledger, Unfinished, first_ledger, nothing_unfinished, recorded_in, changed_in, turned_at};
@@ -11,7 +12,9 @@ ghost use Rattle.data_agent.specs.Calls.{IsNear, MayTurn};
 ghost use Rattle.data_agent.specs.Standing.{StandsFor};
 
 use crate::Resident;
-use packet_signature::Row;
+use crate::archival::Note;
+use crate::closed_page::{ClosedPage, Whereabouts};
+use packet_signature::{Row, RowData};
 use page_catalogue::Catalogue;
 use spie_base::{NoMemory, PageNo, RouterId, Rules, Sig};
 use std::alloc::Global;
@@ -29,8 +32,35 @@ pub struct Agent {
     pub(crate) opened: Box<Resident>,
     // At least as many bits as are set in the open page.
     pub(crate) marked: u32,
-    pub(crate) closed: VecDeque<Box<Resident>>,
+    pub(crate) closed: VecDeque<ClosedPage>,
+    // The rows of the pages in memory.
     pub(crate) table: Table,
+    // What the segment's archival covers, where one came.
+    pub(crate) noted: Option<Vec<Note>>,
+}
+
+// Bytes have their length by their type.
+fn has_four(bytes: &[u8; 4])
+    ensures { length bytes.now ≡ 4 }
+{
+    let _all = &bytes[..4];
+}
+
+fn has_all(bytes: &[u8; 28])
+    ensures { length bytes.now ≡ 28 }
+{
+    let _all = &bytes[..28];
+}
+
+// A row fits in a record, by its type.
+fn is_plain(row: &Row)
+    ensures { IsPlainRow row.now }
+{
+    let _key = row.key;
+    match &row.old {
+        RowData::Direct(bytes) => has_four(bytes),
+        RowData::Indirect(sig) => has_all(&sig.bytes),
+    }
 }
 
 impl Agent {
@@ -50,6 +80,7 @@ impl Agent {
             marked: 0,
             closed: VecDeque::new(alloc),
             table: Table::new(alloc)?,
+            noted: None,
         })
     }
 
@@ -71,6 +102,7 @@ impl Agent {
         ensures changed { OnOk result ((rules : TheRules) (l : Ledger) (u : Unfinished) → StandsFor self.old rules l u → StandsFor self.new rules (changed_in l page.number row.now) u) }
         ensures same { OnErr result ((rules : TheRules) (l : Ledger) (u : Unfinished) → StandsFor self.old rules l u → StandsFor self.new rules l u) }
     {
+        is_plain(row);
         self.table.add(alloc, page, row)
     }
 
@@ -88,7 +120,10 @@ impl Agent {
         self.closed.reserve(1)?;
         self.catalogue.reserve(alloc, 1)?;
         let filled = mem::replace(&mut self.opened, fresh);
-        self.closed.push_back_reserved(filled);
+        self.closed.push_back_reserved(ClosedPage {
+            place: Whereabouts::InMemory(filled),
+            covered: false,
+        });
         self.marked = 0;
         self.page = self.catalogue.turn(clock);
         Ok(self.page)

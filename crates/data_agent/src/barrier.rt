@@ -1,24 +1,28 @@
-// A barrier: a tick closes the open page where it is due, and then pages expire.
-ghost use Rattle.std.specs.Prelude.{◌≡◌, ◌≤◌, ◌<◌, ◌+◌, ◌-◌, ◌^◌, ℕ, true, IfOk, OnOk, OnErr, length, drop};
+// A barrier: the segment's archival is finished, a tick closes the open page where it is due, and then pages expire.
+ghost use Rattle.std.specs.Prelude.{◌≡◌, ◌≤◌, ◌<◌, ◌+◌, ◌-◌, ◌^◌, ◌&&◌, [], nat_le, nat_lt, ℕ, true, not, IfOk, OnOk, OnErr, length, drop, if◌then◌else◌};
 ghost use Rattle.std.specs.List.{Contains};
 ghost use Rattle.spie_base.specs.Causes.{RoseBy};
 ghost use Rattle.spie_base.specs.declared.Rules.{Rules as TheRules};
 ghost use Rattle.router_account.specs.Ledger.{Ledger, Unfinished, nothing_unfinished, behind_barrier};
 ghost use Rattle.router_account.specs.Records.{Holds, HoldsBits, ArePageBits, KeepsOthers};
+ghost use Rattle.shelved_page.specs.Shelving.{view_of};
 ghost use Rattle.transform_table.specs.Tables.{rows_of_page};
 ghost use Rattle.data_agent.specs.Calls.{MayPass, IsPassed, split_of, left_of, marks_of};
-ghost use Rattle.data_agent.specs.Standing.{StandsFor};
-ghost use Rattle.data_agent.specs.Passing.{IsDueBits, IsTicked, expired_at, StandsForSame};
+ghost use Rattle.data_agent.specs.Expiring.{Discards, DiscardsOne, covers_at, IsExpiredBy, expired_with};
+ghost use Rattle.data_agent.specs.Standing.{Stands, StandsFor};
+ghost use Rattle.data_agent.specs.Passing.{IsDueBits, IsTicked, StandsForSame};
 
-use crate::{Agent, Barrier, Closed, Resident};
+use crate::closed_page::ClosedPage;
+use crate::{Agent, Barrier, Closed};
 use page_shelf::Shelf;
-use spie_base::{List, NoMemory, PageNo, PageRange};
+use shelved_page::discard_both;
+use spie_base::{List, NoMemory, PageNo, PageRange, RouterId};
 use std::alloc::Global;
 use std::collections::VecDeque;
 use transform_table::Table;
 
 // Lets go of so many pages at the front.
-fn let_go(pages: &mut VecDeque<Box<Resident>>, count: usize)
+fn let_go(pages: &mut VecDeque<ClosedPage>, count: usize)
     ensures { pages.new.items ≡ drop count pages.old.items }
 {
     'pages: for _ in 0..count {
@@ -26,14 +30,66 @@ fn let_go(pages: &mut VecDeque<Box<Resident>>, count: usize)
     }
 }
 
-// Leaves out the rows of these pages.
+// Leaves out the rows of these pages, and no others.
 fn drop_rows(table: &mut Table, pages: &PageRange)
-    ensures { (page : ℕ) → pages.now.last.number < page → rows_of_page page table.new ≡ rows_of_page page table.old }
+    requires some { pages.now.first.number ≤ pages.now.last.number }
+    ensures { (page : ℕ) → rows_of_page page table.new
+        ≡ (if nat_le pages.now.first.number page && nat_lt page (pages.now.last.number + 1) then [] else rows_of_page page table.old) }
 {
     'pages: for number in pages.first.number..pages.last.number {
         table.drop_page(PageNo { number });
     }
     table.drop_page(pages.last);
+}
+
+// Discards the records of an expired page, where an archival covered it. Says whether one of them is left.
+fn discard_one<H: Shelf>(
+    alloc: Global,
+    shelf: &mut H,
+    router: RouterId,
+    page: PageNo,
+    covered: bool,
+) -> Result<bool, NoMemory>
+    ensures later { H.faults shelf.old ≤ H.faults shelf.new }
+    ensures still { H.tells shelf.new ≡ H.tells shelf.old }
+    ensures discarded { let before = view_of H.tells H.contents H.faults shelf.old in
+        let after = view_of H.tells H.contents H.faults shelf.new in
+        IfOk result (λ left. DiscardsOne router.number page.number covered left before after) }
+{
+    if !covered {
+        return Ok(false);
+    }
+    let cleared = discard_both(alloc, shelf, router, page)?;
+    Ok(!cleared)
+}
+
+// Discards the records of these expired pages, the first ones among the closed, where an archival covered them. Gives
+// the pages of which a record is left.
+fn discard_pages<H: Shelf>(
+    alloc: Global,
+    shelf: &mut H,
+    router: RouterId,
+    pages: &PageRange,
+    closed: &VecDeque<ClosedPage>,
+) -> Result<Vec<PageNo>, NoMemory>
+    requires some { pages.now.first.number ≤ pages.now.last.number }
+    requires fits { pages.now.last.number + 1 < 2 ^ 32 }
+    requires there { pages.now.last.number - pages.now.first.number < length closed.now.items }
+    ensures later { H.faults shelf.old ≤ H.faults shelf.new }
+    ensures still { H.tells shelf.new ≡ H.tells shelf.old }
+    ensures discarded { let before = view_of H.tells H.contents H.faults shelf.old in
+        let after = view_of H.tells H.contents H.faults shelf.new in
+        IfOk result (λ left. Discards router.number (covers_at pages.now.first.number closed.now.items) pages.now.first.number (pages.now.last.number + 1) left.items before after) }
+{
+    let mut left = Vec::new(alloc);
+    'pages: for number in pages.first.number..pages.last.number + 1 {
+        let page = PageNo { number };
+        let covered = closed[(number - pages.first.number) as usize].covered;
+        if discard_one(alloc, shelf, router, page, covered)? {
+            left.push(page)?;
+        }
+    }
+    Ok(left)
 }
 
 impl Agent {
@@ -74,21 +130,39 @@ impl Agent {
         Ok(Some(Closed { page, bits }))
     }
 
-    // Lets go of the pages that expire at this clock.
-    fn expire(&mut self, clock: u64)
+    // Lets go of the pages that expire at this clock, and gives those of which a record is left on the shelf.
+    fn expire<H: Shelf>(
+        &mut self,
+        alloc: Global,
+        shelf: &mut H,
+        clock: u64,
+    ) -> Result<Vec<PageNo>, NoMemory>
         requires later { self.old.catalogue.clock ≤ clock }
-        ensures { (rules : TheRules) (l : Ledger) (u : Unfinished) → StandsFor self.old rules l u → StandsFor self.new rules (expired_at l clock) u }
+        requires stands { (rules : TheRules) × (l : Ledger) × Stands self.old rules l }
+        ensures later { H.faults shelf.old ≤ H.faults shelf.new }
+        ensures still { H.tells shelf.new ≡ H.tells shelf.old }
+        ensures expired { (rules : TheRules) (l : Ledger) → Stands self.old rules l → Stands self.new rules (expired_with l clock []) }
+        ensures noted { self.new.noted ≡ self.old.noted }
+        ensures discarded { let before = view_of H.tells H.contents H.faults shelf.old in
+            let after = view_of H.tells H.contents H.faults shelf.new in
+            IfOk result (λ left. (rules : TheRules) (l : Ledger) → Stands self.old rules l → IsExpiredBy rules l clock left.items before after) }
     {
-        if let Some(pages) = self.catalogue.expire(clock) {
-            let count = (pages.last.number - pages.first.number) as usize + 1;
-            let_go(&mut self.closed, count);
-            drop_rows(&mut self.table, &pages);
-        }
+        let Some(pages) = self.catalogue.expire(clock) else {
+            return Ok(Vec::new(alloc));
+        };
+        let left = discard_pages(alloc, shelf, self.router, &pages, &self.closed);
+        let_go(
+            &mut self.closed,
+            (pages.last.number - pages.first.number) as usize + 1,
+        );
+        drop_rows(&mut self.table, &pages);
+        left
     }
 
-    /// The barrier's part at this router: a tick closes the open page where it is due, and then pages expire. The
-    /// bits of the open page are counted only where as many marks as the limit were set since the last count, or where
-    /// it closes.
+    /// The barrier's part at this router. First the segment's archival is finished: of each page that it covers whose bits
+    /// record was put the rows record is put too, and where that worked the page leaves memory. Then a tick closes the
+    /// open page where it is due, and then pages expire, and the shelf's records of these are discarded. The bits of the
+    /// open page are counted only where as many marks as the limit were set since the last count, or where it closes.
     pub fn barrier<H: Shelf>(
         &mut self,
         alloc: Global,
@@ -109,12 +183,13 @@ impl Agent {
         ensures others { OnOk result ((rules : TheRules) (l : Ledger) (u : Unfinished) → StandsFor self.old rules l u → H.tells shelf.old ≡ true → KeepsOthers l.account.router (H.contents shelf.old) (H.contents shelf.new)) }
         ensures recorded { OnErr result ((rules : TheRules) (l : Ledger) (u : Unfinished) → StandsFor self.old rules l u → StandsForSame self.new rules l) }
     {
+        let archived = self.finish(alloc, shelf)?;
         let closed = self.close(alloc, clock, tick)?;
-        self.expire(clock);
+        let left = self.expire(alloc, shelf, clock)?;
         Ok(Barrier {
-            archived: None,
+            archived,
             closed,
-            left: List::of(Vec::new(alloc)),
+            left: List::of(left),
         })
     }
 }

@@ -16,7 +16,7 @@ pub struct Resident {
 }
 
 impl Resident {
-    ghost use Rattle.data_agent.specs.Residents.{IsFresh, Records, shows};
+    ghost use Rattle.data_agent.specs.Residents.{IsFresh, IsRead, Records, shows};
 
     /// An empty page of a router.
     pub(crate) fn open(
@@ -34,6 +34,28 @@ impl Resident {
             Resident {
                 family: Family::of(seed, rules.k, rules.n),
                 page: Page::empty(alloc, rules.n)?,
+            },
+        )?)
+    }
+
+    /// A page of a router that was read back.
+    pub(crate) fn of(
+        alloc: Global,
+        rules: &Rules,
+        router: RouterId,
+        page: PageNo,
+        bits: Page,
+    ) -> Result<Box<Resident>, NoMemory>
+        requires ranges { AreInRange rules.now.k rules.now.n }
+        requires size { bits.n ≡ rules.now.n }
+        ensures { IfOk result (λ resident. IsRead rules.now router.number page.number bits resident.value) }
+    {
+        let seed = page_seed(rules.base, router, page);
+        Ok(Box::new(
+            alloc,
+            Resident {
+                family: Family::of(seed, rules.k, rules.n),
+                page: bits,
             },
         )?)
     }

@@ -8,11 +8,14 @@ ghost use Rattle.router_account.specs.Records.{Holds, AreTrue, AllFailed};
 ghost use Rattle.router_account.specs.Sights.{failures};
 ghost use Rattle.packet_signature.specs.Row.{key_of};
 ghost use Rattle.transform_table.specs.Tables.{with_key};
+ghost use Rattle.std.specs.List.{flat_map};
 ghost use Rattle.data_agent.specs.Calls.{MayAsk, IsSeen};
+ghost use Rattle.data_agent.specs.Looking.{undone_by};
 ghost use Rattle.data_agent.specs.Seeing.{undone_in, shown_by, told_by, expired_in};
 ghost use Rattle.data_agent.specs.Standing.{StandsFor};
 
-use crate::{Agent, Resident};
+use crate::Agent;
+use crate::looking::{Look, unread_pages, used_pages};
 use packet_signature::{inverse, key};
 use page_shelf::Shelf;
 use router_account::Unreadable;
@@ -20,11 +23,12 @@ use spie_base::{List, NoMemory, PageNo, PageRange, Sig, Sighting, ascending};
 use std::alloc::Global;
 use transform_table::Table;
 
-/// What a query sees of a router. It borrows the agent's pages.
+/// What a query sees of a router. It borrows the agent's pages, and owns what was read back from the shelf.
 #[derive(Drop)]
 pub struct Sight<'a> {
-    pub(crate) pages: Vec<&'a Resident>,
-    // Of pages from the first to the last the rows are used.
+    // The pages of the window that have not expired.
+    pub(crate) looks: Vec<Look<'a>>,
+    // Of pages from the first to the last the rows are used. The table has none of pages on the shelf.
     pub(crate) rows: &'a Table,
     pub(crate) first: u32,
     pub(crate) last: u32,
@@ -66,14 +70,24 @@ impl<'a> Sight<'a> {
         }
         Ok(())
     }
+
+    // Adds what the rows that were read back say that a signature was before.
+    fn undo_read(&self, olds: &mut Vec<Sig>, sig: &Sig) -> Result<(), NoMemory>
+        ensures { OnOk result (olds.new.items ≡ olds.old.items ++ flat_map (undone_by sig.now) self.now.looks.items) }
+    {
+        for look in &self.looks {
+            look.undo(olds, sig)?;
+        }
+        Ok(())
+    }
 }
 
 impl<'a> Sighting for Sight<'a> {
     ghost shown = { shown_by };
 
     fn hit(&self, sig: &Sig) -> bool {
-        for page in &self.pages {
-            if page.has(sig) {
+        for look in &self.looks {
+            if look.shows(sig) {
                 return true;
             }
         }
@@ -83,11 +97,12 @@ impl<'a> Sighting for Sight<'a> {
     fn origins(&self, alloc: Global, sig: &Sig) -> Result<Vec<Sig>, NoMemory> {
         let mut olds = vec![in alloc; *sig]?;
         self.undo(&mut olds, sig)?;
+        self.undo_read(&mut olds, sig)?;
         Ok(ascending(olds).into_vec())
     }
 
     fn has_missing(&self) -> bool {
-        self.expired.is_some()
+        self.expired.is_some() || !self.unreadable.items().is_empty()
     }
 }
 
@@ -114,7 +129,8 @@ impl Agent {
         &self.table
     }
 
-    /// What a query for a time sees. The sight borrows the pages of the window that are in memory, and copies none.
+    /// What a query for a time sees. The sight borrows the pages of the window that are in memory, and copies none. It
+    /// reads those on the shelf back, of each the bits first, and the rows only where the bits were got.
     pub fn sight<H: Shelf>(
         &self,
         alloc: Global,
@@ -135,20 +151,15 @@ impl Agent {
         let window = self.catalogue.window(time);
         let first = self.first();
         let from = first.max(window.first.number);
-        let mut pages = Vec::new(alloc);
-        let mut used = Vec::new(alloc);
-        'pages: for number in from..window.last.number + 1 {
-            pages.push(self.resident(number))?;
-            used.push(PageNo { number })?;
-        }
+        let looks = self.looks(alloc, shelf, from, window.last.number)?;
         Ok(Sight {
-            pages,
             rows: self.table(),
             first: from,
             last: window.last.number,
             expired: expired_pages(window, first),
-            unreadable: List::of(Vec::new(alloc)),
-            used: List::of(used),
+            unreadable: unread_pages(alloc, &looks)?,
+            used: used_pages(alloc, &looks)?,
+            looks,
         })
     }
 }

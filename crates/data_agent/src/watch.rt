@@ -4,12 +4,13 @@ ghost use Rattle.spie_base.specs.declared.Rules.{Rules as TheRules};
 ghost use Rattle.router_account.specs.Account.{Account};
 ghost use Rattle.router_account.specs.Ledger.{Ledger, Unfinished};
 ghost use Rattle.router_account.specs.Watches.{watch_of};
-ghost use Rattle.data_agent.specs.Residents.{IsResident};
-ghost use Rattle.data_agent.specs.Standing.{StandsFor, HasPages};
+ghost use Rattle.data_agent.specs.Standing.{Stands, StandsFor, HasPages};
+ghost use Rattle.data_agent.specs.Watching.{IsFound, IsLacking, shows_now};
 
+use crate::closed_page::Whereabouts;
 use crate::{Agent, Resident};
 use router_account::Watch;
-use spie_base::Sig;
+use spie_base::{PageRange, Sig};
 
 impl Agent {
     // The number of the first page that has not expired.
@@ -20,15 +21,48 @@ impl Agent {
         self.page.number - self.closed.len() as u32
     }
 
-    // A page that has not expired.
-    pub(crate) fn resident(&self, page: u32) -> &Resident
-        requires { (rules : TheRules) × (a : Account) × HasPages self.now rules a × (self.now.catalogue.gone ≤ page) × (page ≤ self.now.page.number) }
-        ensures { (rules : TheRules) (a : Account) → HasPages self.now rules a → IsResident rules a page result.now }
+    // A page that has not expired, where it is in memory.
+    pub(crate) fn resident(&self, page: u32) -> Option<&Resident>
+        requires { (rules : TheRules) × (l : Ledger) × Stands self.now rules l × (self.now.catalogue.gone ≤ page) × (page ≤ self.now.page.number) }
+        ensures { (rules : TheRules) (l : Ledger) → Stands self.now rules l → IsFound rules l page result }
     {
         if page == self.page.number {
-            return &self.opened;
+            return Some(&self.opened);
         }
-        &self.closed[(page - self.first()) as usize]
+        match &self.closed[(page - self.first()) as usize].place {
+            Whereabouts::InMemory(resident) => Some(resident),
+            Whereabouts::OnShelf(_) => None,
+        }
+    }
+
+    // Whether a page that has not expired is in memory and shows a signature.
+    fn shows(&self, page: u32, sig: &Sig) -> bool
+        requires { (rules : TheRules) × (l : Ledger) × Stands self.now rules l × (self.now.catalogue.gone ≤ page) × (page ≤ self.now.page.number) }
+        ensures { (rules : TheRules) (l : Ledger) → Stands self.now rules l → result ≡ shows_now rules l sig.now page }
+    {
+        match self.resident(page) {
+            Some(resident) => resident.has(sig),
+            None => false,
+        }
+    }
+
+    // Whether a page of a window is not in memory.
+    fn lacks(&self, window: &PageRange) -> bool
+        requires stands { (rules : TheRules) × (l : Ledger) × Stands self.now rules l }
+        requires some { window.now.first.number ≤ window.now.last.number }
+        requires exists { window.now.last.number ≤ self.now.page.number }
+        ensures { (rules : TheRules) (l : Ledger) → Stands self.now rules l → IsLacking rules l window.now.first.number window.now.last.number result }
+    {
+        let first = self.first();
+        if window.first.number < first {
+            return true;
+        }
+        'pages: for page in window.first.number..window.last.number + 1 {
+            if self.resident(page).is_none() {
+                return true;
+            }
+        }
+        false
     }
 
     /// Whether a signature was recorded in the pages of the window at a clock that are in memory. Costs a look at each
@@ -40,11 +74,11 @@ impl Agent {
         let window = self.catalogue.window(clock);
         let first = self.first();
         'pages: for page in first.max(window.first.number)..window.last.number + 1 {
-            if self.resident(page).has(sig) {
+            if self.shows(page, sig) {
                 return Watch::Seen;
             }
         }
-        if window.first.number < first {
+        if self.lacks(&window) {
             Watch::Unknown
         } else {
             Watch::NotSeen

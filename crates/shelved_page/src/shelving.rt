@@ -1,5 +1,5 @@
 // The records of a closed page, put on a shelf and discarded.
-ghost use Rattle.std.specs.Prelude.{◌≡◌, not, IfOk};
+ghost use Rattle.std.specs.Prelude.{◌≡◌, ◌≤◌, not, IfOk};
 ghost use Rattle.archive_record.specs.Spelling.{AreBits, AreRows, bits_record, rows_record, spelled_bits, spelled_rows};
 ghost use Rattle.page_shelf.specs.declared.ShelfPart.TheVariants.{Bits, Rows};
 ghost use Rattle.router_account.specs.Records.{name_of};
@@ -28,7 +28,9 @@ fn put_record<H: Shelf>(
     name: &ShelfName,
     bytes: &[u8],
 ) -> Result<Option<[u8; 32]>, NoMemory>
-    ensures { let before = view_of H.tells H.contents H.faults shelf.old in
+    ensures later { H.faults shelf.old ≤ H.faults shelf.new }
+    ensures still { H.tells shelf.new ≡ H.tells shelf.old }
+    ensures put { let before = view_of H.tells H.contents H.faults shelf.old in
         let after = view_of H.tells H.contents H.faults shelf.new in
         IfOk result (λ digest. IsPut name.now bytes.now before after digest) }
 {
@@ -47,7 +49,9 @@ pub fn put_bits<H: Shelf>(
     bits: &Page,
 ) -> Result<Option<[u8; 32]>, NoMemory>
     requires { AreBits (bits_record head.now bits.now) }
-    ensures { let before = view_of H.tells H.contents H.faults shelf.old in
+    ensures later { H.faults shelf.old ≤ H.faults shelf.new }
+    ensures still { H.tells shelf.new ≡ H.tells shelf.old }
+    ensures put { let before = view_of H.tells H.contents H.faults shelf.old in
         let after = view_of H.tells H.contents H.faults shelf.new in
         IfOk result (λ digest. IsPut (name_of head.now.router.number head.now.page.number Bits) (spelled_bits (bits_record head.now bits.now)) before after digest) }
 {
@@ -69,7 +73,9 @@ pub fn put_rows<H: Shelf>(
     rows: &[Row],
 ) -> Result<Option<[u8; 32]>, NoMemory>
     requires { AreRows (rows_record router page rows.now) }
-    ensures { let before = view_of H.tells H.contents H.faults shelf.old in
+    ensures later { H.faults shelf.old ≤ H.faults shelf.new }
+    ensures still { H.tells shelf.new ≡ H.tells shelf.old }
+    ensures put { let before = view_of H.tells H.contents H.faults shelf.old in
         let after = view_of H.tells H.contents H.faults shelf.new in
         IfOk result (λ digest. IsPut (name_of router.number page.number Rows) (spelled_rows (rows_record router page rows.now)) before after digest) }
 {
@@ -84,7 +90,9 @@ pub fn put_rows<H: Shelf>(
 
 // Leaves nothing under a name. Says whether that did not fail.
 fn discard_one<H: Shelf>(alloc: Global, shelf: &mut H, name: &ShelfName) -> Result<bool, NoMemory>
-    ensures { let before = view_of H.tells H.contents H.faults shelf.old in
+    ensures later { H.faults shelf.old ≤ H.faults shelf.new }
+    ensures still { H.tells shelf.new ≡ H.tells shelf.old }
+    ensures discarded { let before = view_of H.tells H.contents H.faults shelf.old in
         let after = view_of H.tells H.contents H.faults shelf.new in
         IfOk result (λ done. IsDiscard name.now before after done) }
 {
@@ -103,7 +111,9 @@ pub fn discard_both<H: Shelf>(
     router: RouterId,
     page: PageNo,
 ) -> Result<bool, NoMemory>
-    ensures { let before = view_of H.tells H.contents H.faults shelf.old in
+    ensures later { H.faults shelf.old ≤ H.faults shelf.new }
+    ensures still { H.tells shelf.new ≡ H.tells shelf.old }
+    ensures cleared { let before = view_of H.tells H.contents H.faults shelf.old in
         let after = view_of H.tells H.contents H.faults shelf.new in
         IfOk result (λ cleared. Clears router.number page.number (not cleared) before after) }
 {

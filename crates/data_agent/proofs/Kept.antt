@@ -1,0 +1,147 @@
+-- What of closed pages stays while their account grows.
+use Rattle.std.proofs.Common.{ℕ, ◌≡◌, ◌≤◌, ◌<◌, ◌+◌, ◌-◌, ◌∙◌, List, length, get_or, [], ◌||◌, cond, Bool, true, false, Option, Some, None, Vec, Global, sym, ap, subst, inl, inr, arith}
+use Rattle.std.proofs.lemmas.Bool.{false≢true, ltb-true, le-ltb, cases_lt}
+use Rattle.sha2.specs.Sha256.{sha256}
+use Rattle.spie_base.proofs.Membership.{into_map}
+use Rattle.spie_base.specs.Shapes.{shape_of}
+use Rattle.spie_base.specs.declared.Rules.{Rules}
+use Rattle.hash_family.specs.Positions.{family_of, page_seed_of}
+use Rattle.bloom_page.specs.Sets.{is_in}
+use Rattle.archive_record.specs.Spelling.{bits_record, rows_record, spelled_bits, spelled_rows}
+use Rattle.archive_record.specs.declared.BitsHead.{BitsHead}
+use Rattle.page_catalogue.specs.Pages.{opened, closed}
+use Rattle.page_shelf.specs.declared.ShelfPart.TheVariants.{Bits, Rows}
+use Rattle.shelved_page.specs.declared.shelving.Digests.{Digests}
+use Rattle.transform_table.specs.Tables.{rows_of_page}
+use Rattle.router_account.specs.Account.{Account, bits, page_set, rows_in}
+use Rattle.router_account.specs.Ledger.{Ledger, Unfinished}
+use Rattle.router_account.specs.Records.{head_of, true_text}
+use Rattle.data_agent.specs.declared.agent.Agent.{Agent}
+use Rattle.data_agent.specs.declared.archival.Note.{Note}
+use Rattle.data_agent.specs.declared.closed_page.ClosedPage.{ClosedPage}
+use Rattle.data_agent.specs.declared.closed_page.Whereabouts.{Whereabouts}
+use Rattle.data_agent.specs.declared.closed_page.Whereabouts.TheVariants.{InMemory, OnShelf}
+use Rattle.data_agent.specs.declared.resident.Resident.{Resident}
+use Rattle.data_agent.specs.Residents.{IsResident}
+use Rattle.data_agent.specs.Standing.{AreClosed, AreDigests, HasNotes, IsBitsDigest, IsPlaced, Stands, noted_page, rows_kept}
+
+-- the closed pages of one account have the same bits and times in another
+pub record Keeps (rules : Rules) (a b : Account) : Type 0 where
+  pub router : b.router ≡ a.router
+  pub longer : length a.closings ≤ length b.closings
+  pub bits : (page : ℕ) → page < length a.closings → page_set rules b page ≡ page_set rules a page
+  pub opened_same : (page : ℕ) → page < length a.closings → opened b.closings page ≡ opened a.closings page
+  pub closed_same : (page : ℕ) → page < length a.closings → closed b.closings page ≡ closed a.closings page
+
+abbrev head_with : Rules → (page router opened closed : ℕ) → BitsHead
+head_with rules page router opened closed = record { router = record { number = router }; page = record { number = page }; k = rules.k; seed = page_seed_of rules.base router page; opened = opened; closed = closed }
+
+head_kept : (rules : Rules) (a b : Account) (page : ℕ) → Keeps rules a b → page < length a.closings → head_of rules b page ≡ head_of rules a page
+head_kept rules a b page k lt =
+    ap (λ r. head_with rules page r (opened b.closings page) (closed b.closings page)) k.router
+    ∙ ap (λ o. head_with rules page a.router o (closed b.closings page)) (k.opened_same page lt)
+    ∙ ap (λ c. head_with rules page a.router (opened a.closings page) c) (k.closed_same page lt)
+
+pub bits_text_kept : (rules : Rules) (a b : Account) (page : ℕ) → Keeps rules a b → page < length a.closings → true_text rules b page Bits ≡ true_text rules a page Bits
+bits_text_kept rules a b page k lt =
+    ap (λ h. spelled_bits (bits_record h (record { n = rules.n; members = bits rules b page }))) (head_kept rules a b page k lt)
+    ∙ ap (λ s. spelled_bits (bits_record (head_of rules a page) (record { n = rules.n; members = s.members }))) (k.bits page lt)
+
+pub rows_text_kept : (rules : Rules) (a b : Account) (page : ℕ) → b.router ≡ a.router → rows_in b.rows page ≡ rows_in a.rows page → true_text rules b page Rows ≡ true_text rules a page Rows
+rows_text_kept rules a b page router rows =
+    ap (λ r. spelled_rows (rows_record (record { number = r }) (record { number = page }) (rows_in b.rows page))) router
+    ∙ ap (λ xs. spelled_rows (rows_record (record { number = a.router }) (record { number = page }) xs)) rows
+
+digests_kept : (rules : Rules) (a b : Account) (page : ℕ) (d : Digests) → Keeps rules a b → page < length a.closings → rows_in b.rows page ≡ rows_in a.rows page → AreDigests rules a page d → AreDigests rules b page d
+digests_kept rules a b page d k lt rows is = record {
+  bits = is.bits ∙ sym (ap sha256 (bits_text_kept rules a b page k lt));
+  rows = is.rows ∙ sym (ap sha256 (rows_text_kept rules a b page k.router rows));
+}
+
+pub resident_kept : (rules : Rules) (a b : Account) (page : ℕ) (r : Resident) → b.router ≡ a.router → page_set rules b page ≡ page_set rules a page → IsResident rules a page r → IsResident rules b page r
+resident_kept rules a b page r router set is = record {
+  family = is.family ∙ sym (ap (λ n. family_of (shape_of rules n) page) router);
+  page_is = is.page_is ∙ sym set;
+}
+
+place_kept : (rules : Rules) (a b : Account) (page : ℕ) (put : Bool) (w : Whereabouts) → Keeps rules a b → page < length a.closings → (put ≡ true → rows_in b.rows page ≡ rows_in a.rows page)
+    → IsPlaced rules a page put w → IsPlaced rules b page put w
+place_kept rules a b page put (InMemory r) k lt rows (unput, is) = (unput, resident_kept rules a b page r.value k.router (k.bits page lt) is)
+place_kept rules a b page put (OnShelf d) k lt rows (is_put, is) = (is_put, digests_kept rules a b page d k lt (rows is_put) is)
+
+pub closed_kept : (rules : Rules) (l : Ledger) (b : Account) (first : ℕ) (pages : List ClosedPage) → Keeps rules l.account b → first + length pages ≤ length l.account.closings
+    → ((page : ℕ) → is_in l.put_before page ≡ true → rows_in b.rows page ≡ rows_in l.account.rows page)
+    → AreClosed rules l first pages → AreClosed rules (let m : Ledger = record l { account = b } in m) first pages
+closed_kept rules l b first pages k within rows each i d lt =
+    let is = each i d lt in
+    record { covered = is.covered; placed = place_kept rules l.account b (first + i) (is_in l.put_before (first + i)) (get_or pages i d).place k (omega arith) (rows (first + i)) is.placed }
+
+digest_kept : (rules : Rules) (a b : Account) (page : ℕ) (digest : Option (List ℕ)) → true_text rules b page Bits ≡ true_text rules a page Bits → IsBitsDigest rules a page digest → IsBitsDigest rules b page digest
+digest_kept rules a b page None same is = is
+digest_kept rules a b page (Some d) same is = is ∙ sym (ap sha256 same)
+
+pub notes_kept : (rules : Rules) (l : Ledger) (b : Account) (u : Unfinished) (at : Option (List ℕ)) (noted : Option (Vec Note Global)) → Keeps rules l.account b
+    → HasNotes rules l u at noted → HasNotes rules (let m : Ledger = record l { account = b } in m) u at noted
+notes_kept rules l b u None None k h = h
+notes_kept rules l b u None (Some notes) k h = h
+notes_kept rules l b u (Some closings) None k h = h
+notes_kept rules l b u (Some closings) (Some notes) k h = record {
+  closed = let c = h.closed in let m = k.longer in omega arith;
+  covers = h.covers;
+  rising = h.rising;
+  each = λ note has.
+      let page : ℕ = note.page.number in
+      let lt : page < length closings = ltb-true page (length closings) ((h.covers page).0 (into_map noted_page notes.items note has)).closed in
+      let within : page < length l.account.closings = let c = h.closed in omega arith in
+      record { digest = digest_kept rules l.account b page note.bits (bits_text_kept rules l.account b page k within) (h.each note has).digest; put = (h.each note has).put };
+  refused = h.refused;
+}
+
+-- ---- two ledgers of one agent
+
+abbrev pub some_page : Agent → ClosedPage
+some_page agent = record { place = InMemory agent.opened; covered = false }
+
+-- where a page is
+pub place_at : Agent → (page : ℕ) → Whereabouts
+place_at agent page = (get_or agent.closed.items (page - agent.catalogue.gone) (some_page agent)).place
+
+pub closed_at : (agent : Agent) (rules : Rules) (l : Ledger) (page : ℕ) → Stands agent rules l → agent.catalogue.gone ≤ page → page < length l.account.closings → IsPlaced rules l.account page (is_in l.put_before page) (place_at agent page)
+unfolding place_at
+closed_at agent rules l page s from to =
+    let count : agent.catalogue.gone + length agent.closed.items ≡ length l.account.closings = s.pages.count in
+    let at : agent.catalogue.gone + (page - agent.catalogue.gone) ≡ page = omega arith in
+    subst (λ p. IsPlaced rules l.account p (is_in l.put_before p) (place_at agent page)) at (s.closed (page - agent.catalogue.gone) (some_page agent) (omega arith)).placed
+
+same_place : (rules other : Rules) (a b : Account) (page : ℕ) (p q : Bool) (w : Whereabouts) → IsPlaced rules a page p w → IsPlaced other b page q w → p ≡ q
+same_place rules other a b page p q (InMemory r) x y = x.0 ∙ sym y.0
+same_place rules other a b page p q (OnShelf d) x y = x.0 ∙ sym y.0
+
+pub same_ends : (agent : Agent) (rules other : Rules) (l m : Ledger) → Stands agent rules l → Stands agent other m → length l.account.closings ≡ length m.account.closings
+same_ends agent rules other l m s t = ap length (sym s.pages.closings ∙ t.pages.closings)
+
+pub same_put : (agent : Agent) (rules other : Rules) (l m : Ledger) (page : ℕ) → Stands agent rules l → Stands agent other m → agent.catalogue.gone ≤ page → is_in l.put_before page ≡ is_in m.put_before page
+same_put agent rules other l m page s t from =
+    let e : length l.account.closings ≡ length m.account.closings = same_ends agent rules other l m s t in
+    elim (cases_lt page (length l.account.closings)) [
+      | inl lt ↦ same_place rules other l.account m.account page (is_in l.put_before page) (is_in m.put_before page) (place_at agent page) (closed_at agent rules l page s from lt) (closed_at agent other m page t from (omega arith))
+      | inr ge ↦ (s.to_come page ge).unput ∙ sym (t.to_come page (omega arith)).unput
+    ]
+
+same_set : (rules other : Rules) (a b : Account) (page : ℕ) (p q : Bool) (w : Whereabouts) → p ≡ false → IsPlaced rules a page p w → IsPlaced other b page q w → page_set rules a page ≡ page_set other b page
+same_set rules other a b page p q (InMemory r) unput x y = sym x.1.page_is ∙ y.1.page_is
+same_set rules other a b page p q (OnShelf d) unput x y = absurd (false≢true (sym unput ∙ x.0))
+
+pub same_bits : (agent : Agent) (rules other : Rules) (l m : Ledger) (page : ℕ) → Stands agent rules l → Stands agent other m → agent.catalogue.gone ≤ page → page < length l.account.closings → is_in l.put_before page ≡ false
+    → bits rules l.account page ≡ bits other m.account page
+same_bits agent rules other l m page s t from to unput =
+    let e : length l.account.closings ≡ length m.account.closings = same_ends agent rules other l m s t in
+    ap (λ x. x.members) (same_set rules other l.account m.account page (is_in l.put_before page) (is_in m.put_before page) (place_at agent page) unput (closed_at agent rules l page s from to) (closed_at agent other m page t from (omega arith)))
+
+-- a page that has not expired and was not put has its rows
+pub kept_here : (gone : ℕ) (l : Ledger) (page : ℕ) → gone ≤ page → is_in l.put_before page ≡ false → rows_kept gone l page ≡ rows_in l.account.rows page
+kept_here gone l page from unput = ap (λ b. cond (b || is_in l.put_before page) [] (rows_in l.account.rows page)) (le-ltb page gone from) ∙ ap (λ b. cond b [] (rows_in l.account.rows page)) unput
+
+-- the rows of a page in memory are those in the table
+pub rows_here : (agent : Agent) (rules : Rules) (l : Ledger) (page : ℕ) → Stands agent rules l → agent.catalogue.gone ≤ page → is_in l.put_before page ≡ false → rows_of_page page agent.table ≡ rows_in l.account.rows page
+rows_here agent rules l page s from unput = s.rows.table page ∙ kept_here agent.catalogue.gone l page from unput

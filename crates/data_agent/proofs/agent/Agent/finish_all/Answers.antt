@@ -1,0 +1,27 @@
+use Rattle.std.proofs.Common.{◌≡◌, ◌+◌, ◌++◌, ◌∷◌, [], ◌∙◌, sym, subst, arith, take, get_or, None}
+use Rattle.std.proofs.lemmas.List.{take_more, get_or_default}
+use Rattle.router_account.specs.Shelves.{ShelfView}
+use Rattle.shelved_page.specs.Shelving.{view_of}
+use Rattle.data_agent.specs.declared.archival.Note.{Note}
+use Rattle.data_agent.specs.Finishing.{FinishesTo}
+use Rattle.data_agent.proofs.Ending.{finishes_more}
+use Rattle.data_agent.proofs.agent.Agent.finish_all.Goals as goal
+
+pub loop-note-preserved : goal.loop-note-preserved
+loop-note-preserved g c =
+    let x : ShelfView = view_of g.H.Shelf.tells g.H.Shelf.contents g.H.Shelf.faults c.args.shelf.now in
+    let y : ShelfView = view_of g.H.Shelf.tells g.H.Shelf.contents g.H.Shelf.faults c.loop-note.shelf in
+    let z : ShelfView = view_of g.H.Shelf.tells g.H.Shelf.contents g.H.Shelf.faults c.finish_one.new.shelf in
+    let none : Note = record { page = record { number = 0 }; bits = None } in
+    let note : Note = get_or c.args.notes.now c.loop-note.note-index none in
+    let e : take (c.loop-note.note-index + 1) c.args.notes.now ≡ take c.loop-note.note-index c.args.notes.now ++ note ∷ [] = take_more c.args.notes.now c.loop-note.note-index none c.loop-note-test.true in
+    record {
+      later = omega (arith, c.loop-note.invariant.later, c.finish_one.ensures.later);
+      still = c.finish_one.ensures.still ∙ c.loop-note.invariant.still;
+      finished = λ rules m s each.
+          let here = each note (c.loop-note.note-index, c.loop-note-test.true, get_or_default c.args.notes.now c.loop-note.note-index note none c.loop-note-test.true) in
+          subst (λ ns. FinishesTo rules m.account ns c.push.new.self.items x z) (sym e)
+          (subst (λ ss. FinishesTo rules m.account (take c.loop-note.note-index c.args.notes.now ++ note ∷ []) ss x z) (sym c.in_ok-push.ensures.items)
+          (finishes_more rules m.account (take c.loop-note.note-index c.args.notes.now) c.loop-note.settled.items note c.in_ok-finish_one.field-0 x y z (c.loop-note.invariant.finished rules m s each)
+          (c.in_ok-finish_one.ensures.finished rules m s here.0 here.1)));
+    }

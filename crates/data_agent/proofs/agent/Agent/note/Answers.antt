@@ -1,0 +1,7 @@
+use Rattle.data_agent.proofs.Fitting.{noted_fits}
+use Rattle.data_agent.proofs.agent.Agent.note.Goals as goal
+
+pub put_bits-requires : goal.put_bits-requires
+put_bits-requires g c =
+    let (rules, l, s, from, to) = c.requires.closed in
+    noted_fits c.args.self.now rules l.account c.args.page.number c.head.result c.in-Some.resident.now s.pages to (c.head.ensures rules l.account s.pages to) (c.in-Some.ensures rules l s).1
