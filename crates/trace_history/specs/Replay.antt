@@ -4,7 +4,7 @@ use Rattle.report_text.specs.declared.Item.{Item}
 use Rattle.trace_format.specs.declared.Line.{Line}
 use Rattle.trace_format.specs.declared.Trace.{Trace}
 use Rattle.router_account.specs.Records.{Holds}
-use Rattle.router_account.specs.Shelves.{ShelfView, empty_shelf}
+use Rattle.router_account.specs.Shelves.{ShelfView}
 use Rattle.trace_history.specs.declared.totals.Totals.{Totals}
 use Rattle.trace_history.specs.History.{History, IsHistoryOf}
 use Rattle.trace_history.specs.Ledgers.{ledger}
@@ -18,10 +18,6 @@ use Rattle.trace_history.specs.Watched.{AreSequentialWatches}
 pub record ReplayViews : Type 0 where
   pub shelf_before : ShelfView
   pub shelf_after : ShelfView
-
--- a replay that has no shelf: as with one that tells that nothing is there, and never fails
-abbrev pub no_shelf : ReplayViews
-no_shelf = record { shelf_before = empty_shelf; shelf_after = empty_shelf }
 
 -- what a history says of the shelf. For each page that was kept, left, or failed to be read a call of it failed. Where
 -- it tells what stands there, all that was read back is what was recorded, nothing but its faults made pages

@@ -5,6 +5,7 @@ use Rattle.std.specs.declared.option.Option.{Option}
 use Rattle.std.specs.Bool.{IsTrue}
 use Rattle.std.specs.List.{All, Contains, flat_map}
 use Rattle.std.proofs.lemmas.Grind.{flat_map-append}
+use Rattle.std.proofs.lemmas.List.{get_or_default}
 use Rattle.spie_base.specs.Causes.{RoseBy}
 use Rattle.spie_base.specs.Shown.{Shown}
 use Rattle.spie_base.specs.declared.PageNo.{PageNo}
@@ -24,14 +25,14 @@ use Rattle.trace_format.specs.declared.What.TheVariants as what
 use Rattle.trace_format.specs.Sound.{IsWithin, FitsClock}
 use Rattle.router_account.specs.declared.Unreadable.{Unreadable}
 use Rattle.router_account.specs.Account.{Sight, hit, origins, window}
-use Rattle.router_account.specs.Ledger.{Ledger, nothing_unfinished}
+use Rattle.router_account.specs.Ledger.{Ledger, nothing_unfinished, no_split}
 use Rattle.router_account.specs.Records.{HaveDigests, AreTrue, AllFailed}
 use Rattle.router_account.specs.Shelves.{ShelfView}
 use Rattle.router_account.specs.Sights.{Reading, UnreadPage, IsRead, sight_by, used_by, expired_by, page_no, range_of, unreadable_of, failures, no_reading}
 use Rattle.data_agent.specs.declared.Barrier.{Barrier}
 use Rattle.data_agent.specs.Calls.{Told}
 use Rattle.trace_history.specs.declared.Totals.{Totals}
-use Rattle.trace_history.specs.History.{Event, queried, History, QueryRun, IsEventOf, clock}
+use Rattle.trace_history.specs.History.{Event, queried, History, QueryRun, IsEventOf, IsHistoryOf, clock}
 use Rattle.trace_history.specs.Ledgers.{ledger}
 use Rattle.trace_history.specs.Outcomes.{AreAllRead, HasSameDigests, IsTrueQuery, HasOnlyFaults, fault_marks, fault_marks_by}
 use Rattle.trace_history.specs.Report.{AreItems, text_of, totals_of, no_totals, with_answer, pages_item, graph_items, answer_item, left_items, bad_of}
@@ -44,8 +45,10 @@ use Rattle.trace_replay.specs.Asking.{AreMore, bad_by, sight_item, item_at, quer
 use Rattle.trace_replay.specs.Barriers.{PrintsPending}
 use Rattle.trace_replay.specs.Printing.{splits_of, lefts_of}
 use Rattle.trace_replay.specs.Segments.{Splits, filled, Pending, pending_of, pending_items}
-use Rattle.trace_replay.specs.Standing.{Stands, AreFew, IsPrinted, IsNext, pending_at}
-use Rattle.trace_replay.proofs.Closes.{at, here, barrier_paid, left_ok, stands_closed, held_now, first_behind}
+use Rattle.trace_replay.specs.Sights.{IsSightAt, AreSights}
+use Rattle.trace_replay.specs.Standing.{Stands, AreFew, IsPrinted, IsRight, IsKeptOn, IsNext, pending_at}
+use Rattle.trace_replay.proofs.Closes.{at, here, barrier_paid, left_ok, right_behind, shelf_behind, stands_closed, held_now, first_behind}
+use Rattle.trace_replay.proofs.Begun.{possible}
 use Rattle.trace_replay.proofs.Filled.{moment_of, clock_filled}
 use Rattle.trace_replay.proofs.Nets.{AgreeBelow, flood_same}
 use Rattle.trace_replay.proofs.Passed.{ledger_queried, items_filled}
@@ -123,11 +126,7 @@ module _ {A S : Type 0} (stands : Standing A) (shown : S → Shown) (told : S �
   seen : (r : ℕ) (l : r < count t) → IsSeenBy shown told (rules_of t r) (behind r) time (sight_of r l)
   seen r l = sees.seen (rules_of t) behind (λ q. nothing_unfinished) stand_after r (some_of sights r (in_sights r l)) (in_after r l)
 
-  module _ (line : Line) (router : RouterId) (packet : ℕ) (sig : Sig) (is : line.what ≡ what.Query router packet time) (known : slice_get t.sigs packet ≡ Some sig) (exists : router.number < count t)
-      (ends : (a b : ℕ) → IsTrue (is_linked t.topology.links a b) → b < count t) (graph : Graph)
-      (flood : IsFlood (net_of shown sights t.topology) (record { router = router; sig = sig }) graph) (mid_s new : State)
-      (pends : PrintsPending t barriers s mid_s)
-      (prints : PrintsQuery t (query_items told (count t) barriers sights line.number graph) graph mid_s new) where
+  module _ (line : Line) (router : RouterId) (packet : ℕ) (sig : Sig) (is : line.what ≡ what.Query router packet time) (known : slice_get t.sigs packet ≡ Some sig) where
     abbrev query : QueryRun
     query = record { router = router.number; sig = sig; time = time; reads = reads }
 
@@ -179,85 +178,24 @@ module _ {A S : Type 0} (stands : Standing A) (shown : S → Shown) (told : S �
         ap (λ (x : Ledger). sight_by (rules_of t r) x (window (rules_of t r) x.account time) (reads r)) (link r l)
         ∙ ap (λ (x : Reading). sight_by (rules_of t r) (behind r) (pages r) x) (reads_is r l)
 
-    agree : AgreeBelow (count t) (net_of shown sights t.topology) (net_at (rules_of t) t.topology G query)
-    agree = record {
-      hit = λ n h.
-          let r = n.router.number in
-          read_of (λ (x : S). (shown x).hit n.sig) false r h ∙ (seen r h).hit n.sig ∙ sym (ap (λ (x : Sight). hit (rules_of t r) x n.sig) (sight_is r h));
-      origins = λ n h x.
-          let r = n.router.number in
-          let e = read_of (λ (y : S). (shown y).origins n.sig) [] r h in
-          let o = ap (λ (y : Sight). origins y n.sig) (sight_is r h) in
-          let P : List Sig → Type 0 = λ ss. Contains ss x in
-          let both = (seen r h).origins n.sig x in
-          ((λ i. subst P (sym o) (both.0 (subst P e i))), (λ i. subst P (sym e) (both.1 (subst P o i))));
-      linked = λ r q. refl;
-      missing = λ r h. read_of (λ (x : S). (shown x).missing) false r h ∙ (seen r h).missing ∙ sym (ap (λ (x : Sight). x.missing) (sight_is r h));
-      ends = ends;
-    }
-
-    -- the line of a router's pages
-    abbrev pages_by : (r : ℕ) → Ledger → Reading → Item
-    pages_by r l x =
-        let ps = window (rules_of t r) l.account time in
-        item.Pages line.number (record { number = r }) (range_of (expired_by (rules_of t r) l ps)) (map bad_of x.unread) (map page_no (used_by (rules_of t r) l ps x))
-
-    abbrev told_of : Option PageRange → List Unreadable → List PageNo → Reading → Told
-    told_of expired unreadable used reading = record { expired = expired; unreadable = unreadable; used = used; reading = reading }
-
-    pages_is : (r : ℕ) → r < count t → item_at told sights line.number r ≡ pages_item t G line.number query r
-    pages_is r l =
-        let x = told (sight_of r l) in
+    -- a router's sight is what the query sees of it
+    sight_ok : (r : ℕ) (l : r < count t) → IsSightAt (rules_of t) G query r (shown (sight_of r l)) (told (sight_of r l))
+    sight_ok r l =
         let e = seen r l in
-        let expired = range_of (expired_by (rules_of t r) (behind r) (pages r)) in
-        let unreadable = map unreadable_of x.reading.unread in
-        read_of (λ (y : S). sight_item line.number r (told y)) item.Head r l
-        ∙ ap (λ (o : Option PageRange). sight_item line.number r (told_of o x.unreadable x.used x.reading)) e.expired_is
-        ∙ ap (λ (o : List Unreadable). sight_item line.number r (told_of expired o x.used x.reading)) e.unreadable_is
-        ∙ ap (λ (o : List PageNo). sight_item line.number r (told_of expired unreadable o x.reading)) e.used_is
-        ∙ ap (λ (o : List Bad). item.Pages line.number (record { number = r }) expired o (map page_no (used_by (rules_of t r) (behind r) (pages r) x.reading))) (bads_named x.reading.unread)
-        ∙ ap (λ (o : Reading). pages_by r (behind r) o) (sym (reads_is r l))
-        ∙ ap (λ (o : Ledger). pages_by r o (reads r)) (sym (link r l))
-
-    abbrev items : List Item
-    items = query_items told (count t) barriers sights line.number graph
-
-    abbrev front : List Item
-    front = item.Query line.number ∷ flat_map (left_items line.number (lefts_of barriers)) (routers t) ++ map (pages_item t G line.number query) (routers t)
-
-    items_is : items ≡ front ++ graph_items line.number graph
-    items_is = ap (λ (xs : List Item). item.Query line.number ∷ flat_map (left_items line.number (lefts_of barriers)) (routers t) ++ xs ++ graph_items line.number graph)
-        (map_same (item_at told sights line.number) (pages_item t G line.number query) 0 (count t) (count t) (omega arith) pages_is)
-
-    are : AreItems t F G line.number event items
-    are = (graph, flood_same (count t) _ _ (record { router = router; sig = sig }) graph exists agree flood, items_is)
-
-    front_quiet : AreQuiet front
-    front_quiet = quiet_cons _ _ (λ z. refl) (quiet_append _ _ (quiet_flat_map (left_items line.number (lefts_of barriers)) (quiet_left line.number (lefts_of barriers)) (routers t)) (quiet_map (pages_item t G line.number query) (λ z r. refl) (routers t)))
-
-    items_totals : (z : Totals) → fold with_answer z items ≡ with_answer z (answer_item line.number graph)
-    items_totals z =
-        ap (λ (xs : List Item). fold with_answer z xs) items_is ∙ fold_append front (graph_items line.number graph) z
-        ∙ ap (λ y. fold with_answer y (graph_items line.number graph)) (front_quiet.each z) ∙ graph_totals line.number graph z
-
-    printed : IsPrinted t G new.report.items new.totals
-    printed =
-        let p = old.printed in
-        let text = text_of t in
-        let waits = pending_items f (pending_of seg) in
-        let before : mid_s.report.items ≡ text (p.items ++ waits) =
-        pends.report ∙ ap (λ (xs : List Pending). s.report.items ++ text (pending_items f xs)) old.pending_is ∙ ap (λ l. l ++ text waits) p.report_is ∙ sym (flat_map-append _ p.items waits) in
-        let e1 = ap length pends.report ∙ length-append s.report.items (text (pending_items f (pending_at t s))) in
-        let up : length mid_s.report.items + 1 ≤ length new.report.items = longer t.topology.names line.number _ mid_s.report.items new.report.items prints.report in
-        let M : Totals → Type 0 = λ z. AreMore z new.totals in
-        record {
-          items = (p.items ++ waits) ++ items;
-          answered = (p.items ++ waits, items, items_filled t f seg history p.items old.ordered.inner p.answered, are, refl);
-          report_is = prints.report ∙ ap (λ l. l ++ text items) before ∙ sym (flat_map-append _ (p.items ++ waits) items);
-          totals_are =
-              prints.totals ∙ ap (λ (z : Totals). with_answer z (answer_item line.number graph)) (pends.totals ∙ p.totals_are)
-              ∙ sym (fold_append (p.items ++ waits) items no_totals ∙ ap (λ (z : Totals). fold with_answer z items) (fold_append p.items waits no_totals ∙ (quiet_pending f (pending_of seg)).each (totals_of p.items)) ∙ items_totals (totals_of p.items));
-          few = few_more s.totals new.totals (length s.report.items) (length new.report.items) (omega (arith, e1, up)) p.few (subst M pends.totals prints.more);
+        let same = sight_is r l in record {
+          hit = λ key. e.hit key ∙ sym (ap (λ (x : Sight). hit (rules_of t r) x key) same);
+          origins = λ key x.
+              let o = ap (λ (y : Sight). origins y key) same in
+              let P : List Sig → Type 0 = λ ss. Contains ss x in
+              let both = e.origins key x in
+              ((λ i. subst P (sym o) (both.0 i)), (λ i. both.1 (subst P o i)));
+          missing = e.missing ∙ sym (ap (λ (x : Sight). x.missing) same);
+          expired_is = e.expired_is ∙ sym (ap (λ (x : Ledger). range_of (expired_by (rules_of t r) x (window (rules_of t r) x.account time))) (link r l));
+          unreadable_is = e.unreadable_is ∙ sym (ap (λ (x : Reading). map unreadable_of x.unread) (reads_is r l));
+          used_is =
+              e.used_is ∙ sym (ap (λ (x : Reading). map page_no (used_by (rules_of t r) (behind r) (pages r) x)) (reads_is r l))
+              ∙ sym (ap (λ (x : Ledger). map page_no (used_by (rules_of t r) x (window (rules_of t r) x.account time) (reads r))) (link r l));
+          reading_is = sym (reads_is r l);
         }
 
     query_paid : RoseBy (fault_marks (count t) F + fault_marks_by (count t) event) start.faults now.faults
@@ -270,17 +208,127 @@ module _ {A S : Type 0} (stands : Standing A) (shown : S → Shown) (told : S �
         (rose_add (fault_marks n F + lefts) lost start.faults mid.faults now.faults (barrier_paid stands t start history seg agents after s was mid old s.clock false barriers all) (subst P count_after sees.paid))
         (omega arith)
 
-    pub query_closes : (g : Splits) × (e : Event) × IsEventOf t.sigs line.what e × Stands stands t start (moment_of line.number e ∷ filled g seg history) [] after new now
-    query_closes =
-        let W : What → Type 0 = λ w. IsEventOf t.sigs w event in
-        let T : ℕ → Type 0 = λ c. c < 2 ^ 48 in (
-          f,
-          event,
-          subst W (sym is) (refl, known, refl),
-          stands_closed stands t start history seg agents after s was mid old s.clock false barriers all line.number event refl link new now sees.later sees.still sees.unchanged
-              (prints.clock ∙ pends.clock ∙ sym clock_now) (subst T (sym (prints.clock ∙ pends.clock)) old.clock_fits) (first_behind stands t start history seg agents after s was mid old s.clock false barriers all (moment_of line.number event) mid_s new pends prints.first) (prints.answers ∙ pends.answers) tt tt tt
-              (read_ok, left_ok stands t start history seg agents after s was mid old s.clock false barriers all line.number event refl link) digest_ok printed query_paid true_ok faults_ok,
-        )
+    event_is : IsEventOf t.sigs line.what event
+    event_is = let W : What → Type 0 = λ w. IsEventOf t.sigs w event in subst W (sym is) (refl, known, refl)
+
+    events_right : IsRight t G []
+    events_right = right_behind stands t start history seg agents after s was mid old s.clock false barriers all line.number event refl link tt tt
+        (read_ok, left_ok stands t start history seg agents after s was mid old s.clock false barriers all line.number event refl link) digest_ok
+
+    shelf_after : IsKeptOn t G [] (λ r. nothing_unfinished) start now
+    shelf_after = shelf_behind stands t start history seg agents after s was mid old s.clock false barriers all line.number event refl link now sees.later sees.still sees.unchanged query_paid true_ok faults_ok
+
+    -- the sights of all routers, where the lines before this one are done
+    pub sights_are : (before upto later : List Line) → t.lines ≡ upto ++ later → upto ≡ before ++ line ∷ [] → IsHistoryOf t.sigs before F → AreSights shown told t line.number sights (record { shelf_before = start; shelf_after = now })
+    sights_are before upto later lines_are last history_of = record {
+      upto = upto;
+      later = later;
+      lines_are = lines_are;
+      before = F;
+      query = query;
+      left = lefts_of barriers;
+      sequential = events_right.sequential (λ r. no_split);
+      watched = events_right.watched (λ r. no_split);
+      done = possible t upto G (λ r. nothing_unfinished) start now (before, line, last, refl, event_is, history_of) events_right shelf_after;
+      count_is = sees.count ∙ count_after;
+      each = λ r d l.
+          let P : S → Type 0 = λ x. IsSightAt (rules_of t) G query r (shown x) (told x) in
+          subst P (get_or_default sights r (some_of sights r (in_sights r l)) d (in_sights r l)) (sight_ok r l);
+    }
+
+    -- what is printed of it
+    module _ (exists : router.number < count t)
+        (ends : (a b : ℕ) → IsTrue (is_linked t.topology.links a b) → b < count t) (graph : Graph)
+        (flood : IsFlood (net_of shown sights t.topology) (record { router = router; sig = sig }) graph) (mid_s new : State)
+        (pends : PrintsPending t barriers s mid_s)
+        (prints : PrintsQuery t (query_items told (count t) barriers sights line.number graph) graph mid_s new) where
+      agree : AgreeBelow (count t) (net_of shown sights t.topology) (net_at (rules_of t) t.topology G query)
+      agree = record {
+        hit = λ n h. read_of (λ (x : S). (shown x).hit n.sig) false n.router.number h ∙ (sight_ok n.router.number h).hit n.sig;
+        origins = λ n h x.
+            let e = read_of (λ (y : S). (shown y).origins n.sig) [] n.router.number h in
+            let P : List Sig → Type 0 = λ ss. Contains ss x in
+            let both = (sight_ok n.router.number h).origins n.sig x in
+            ((λ i. both.0 (subst P e i)), (λ i. subst P (sym e) (both.1 i)));
+        linked = λ r q. refl;
+        missing = λ r h. read_of (λ (x : S). (shown x).missing) false r h ∙ (sight_ok r h).missing;
+        ends = ends;
+      }
+
+      -- the line of a router's pages
+      abbrev pages_by : (r : ℕ) → Ledger → Reading → Item
+      pages_by r l x =
+          let ps = window (rules_of t r) l.account time in
+          item.Pages line.number (record { number = r }) (range_of (expired_by (rules_of t r) l ps)) (map bad_of x.unread) (map page_no (used_by (rules_of t r) l ps x))
+
+      abbrev told_of : Option PageRange → List Unreadable → List PageNo → Reading → Told
+      told_of expired unreadable used reading = record { expired = expired; unreadable = unreadable; used = used; reading = reading }
+
+      pages_is : (r : ℕ) → r < count t → item_at told sights line.number r ≡ pages_item t G line.number query r
+      pages_is r l =
+          let x = told (sight_of r l) in
+          let e = seen r l in
+          let expired = range_of (expired_by (rules_of t r) (behind r) (pages r)) in
+          let unreadable = map unreadable_of x.reading.unread in
+          read_of (λ (y : S). sight_item line.number r (told y)) item.Head r l
+          ∙ ap (λ (o : Option PageRange). sight_item line.number r (told_of o x.unreadable x.used x.reading)) e.expired_is
+          ∙ ap (λ (o : List Unreadable). sight_item line.number r (told_of expired o x.used x.reading)) e.unreadable_is
+          ∙ ap (λ (o : List PageNo). sight_item line.number r (told_of expired unreadable o x.reading)) e.used_is
+          ∙ ap (λ (o : List Bad). item.Pages line.number (record { number = r }) expired o (map page_no (used_by (rules_of t r) (behind r) (pages r) x.reading))) (bads_named x.reading.unread)
+          ∙ ap (λ (o : Reading). pages_by r (behind r) o) (sym (reads_is r l))
+          ∙ ap (λ (o : Ledger). pages_by r o (reads r)) (sym (link r l))
+
+      abbrev items : List Item
+      items = query_items told (count t) barriers sights line.number graph
+
+      abbrev front : List Item
+      front = item.Query line.number ∷ flat_map (left_items line.number (lefts_of barriers)) (routers t) ++ map (pages_item t G line.number query) (routers t)
+
+      items_is : items ≡ front ++ graph_items line.number graph
+      items_is = ap (λ (xs : List Item). item.Query line.number ∷ flat_map (left_items line.number (lefts_of barriers)) (routers t) ++ xs ++ graph_items line.number graph)
+          (map_same (item_at told sights line.number) (pages_item t G line.number query) 0 (count t) (count t) (omega arith) pages_is)
+
+      are : AreItems t F G line.number event items
+      are = (graph, flood_same (count t) _ _ (record { router = router; sig = sig }) graph exists agree flood, items_is)
+
+      front_quiet : AreQuiet front
+      front_quiet = quiet_cons _ _ (λ z. refl) (quiet_append _ _ (quiet_flat_map (left_items line.number (lefts_of barriers)) (quiet_left line.number (lefts_of barriers)) (routers t)) (quiet_map (pages_item t G line.number query) (λ z r. refl) (routers t)))
+
+      items_totals : (z : Totals) → fold with_answer z items ≡ with_answer z (answer_item line.number graph)
+      items_totals z =
+          ap (λ (xs : List Item). fold with_answer z xs) items_is ∙ fold_append front (graph_items line.number graph) z
+          ∙ ap (λ y. fold with_answer y (graph_items line.number graph)) (front_quiet.each z) ∙ graph_totals line.number graph z
+
+      printed : IsPrinted t G new.report.items new.totals
+      printed =
+          let p = old.printed in
+          let text = text_of t in
+          let waits = pending_items f (pending_of seg) in
+          let before : mid_s.report.items ≡ text (p.items ++ waits) =
+          pends.report ∙ ap (λ (xs : List Pending). s.report.items ++ text (pending_items f xs)) old.pending_is ∙ ap (λ l. l ++ text waits) p.report_is ∙ sym (flat_map-append _ p.items waits) in
+          let e1 = ap length pends.report ∙ length-append s.report.items (text (pending_items f (pending_at t s))) in
+          let up : length mid_s.report.items + 1 ≤ length new.report.items = longer t.topology.names line.number _ mid_s.report.items new.report.items prints.report in
+          let M : Totals → Type 0 = λ z. AreMore z new.totals in
+          record {
+            items = (p.items ++ waits) ++ items;
+            answered = (p.items ++ waits, items, items_filled t f seg history p.items old.ordered.inner p.answered, are, refl);
+            report_is = prints.report ∙ ap (λ l. l ++ text items) before ∙ sym (flat_map-append _ (p.items ++ waits) items);
+            totals_are =
+                prints.totals ∙ ap (λ (z : Totals). with_answer z (answer_item line.number graph)) (pends.totals ∙ p.totals_are)
+                ∙ sym (fold_append (p.items ++ waits) items no_totals ∙ ap (λ (z : Totals). fold with_answer z items) (fold_append p.items waits no_totals ∙ (quiet_pending f (pending_of seg)).each (totals_of p.items)) ∙ items_totals (totals_of p.items));
+            few = few_more s.totals new.totals (length s.report.items) (length new.report.items) (omega (arith, e1, up)) p.few (subst M pends.totals prints.more);
+          }
+
+      pub query_closes : (g : Splits) × (e : Event) × IsEventOf t.sigs line.what e × Stands stands t start (moment_of line.number e ∷ filled g seg history) [] after new now
+      query_closes =
+          let T : ℕ → Type 0 = λ c. c < 2 ^ 48 in (
+            f,
+            event,
+            event_is,
+            stands_closed stands t start history seg agents after s was mid old s.clock false barriers all line.number event refl link new now
+                (prints.clock ∙ pends.clock ∙ sym clock_now) (subst T (sym (prints.clock ∙ pends.clock)) old.clock_fits) (first_behind stands t start history seg agents after s was mid old s.clock false barriers all (moment_of line.number event) mid_s new pends prints.first) (prints.answers ∙ pends.answers) tt
+                events_right printed shelf_after,
+          )
 
 -- ---- what the calls require
 

@@ -6,19 +6,19 @@ use Rattle.report_text.specs.declared.Item.TheVariants.{Head}
 use Rattle.trace_format.specs.declared.Line.{Line}
 use Rattle.trace_format.specs.declared.Trace.{Trace}
 use Rattle.trace_format.specs.Sound.{IsSound, AreTimed}
-use Rattle.router_account.specs.Ledger.{first_ledger, nothing_unfinished, no_split}
+use Rattle.router_account.specs.Ledger.{Unfinished, first_ledger, nothing_unfinished, no_split}
 use Rattle.router_account.specs.Shelves.{ShelfView}
 use Rattle.trace_history.specs.declared.Totals.{Totals}
 use Rattle.trace_history.specs.History.{History, IsHistoryOf}
 use Rattle.trace_history.specs.Outcomes.{fault_marks}
-use Rattle.trace_history.specs.Replay.{IsReplayed}
+use Rattle.trace_history.specs.Replay.{IsPossible, IsReplayed}
 use Rattle.trace_history.specs.Routers.{count, rules_of, sum_over}
 use Rattle.trace_replay.specs.declared.state.Answer.{Answer}
 use Rattle.trace_replay.specs.declared.state.State.{State}
 use Rattle.trace_replay.specs.Agents.{Standing}
 use Rattle.trace_replay.specs.Loop.{HasDone}
 use Rattle.trace_replay.specs.Segments.{Splits, filled, is_barrier_line, numbered}
-use Rattle.trace_replay.specs.Standing.{Stands, IsBegun, AreFew}
+use Rattle.trace_replay.specs.Standing.{Stands, IsBegun, IsRight, IsKeptOn, AreFew}
 use Rattle.trace_replay.proofs.Sums.{rose_less, rose_none, sum_none, get_at}
 
 pub stands_begun : {A : Type 0} (stands : Standing A) (t : Trace) (agents : List A) (s : State) (now : ShelfView) → length agents ≡ count t
@@ -72,6 +72,21 @@ done_begun stands t agents s now sound begun stood =
       closed = λ d l b. refl;
     }
 
+-- a history up to a barrier is one that its lines and a shelf may have
+pub possible : (t : Trace) (lines : List Line) (history : History) (us : ℕ → Unfinished) (start now : ShelfView) → IsHistoryOf t.sigs lines history
+    → IsRight t history [] → IsKeptOn t history [] us start now → IsPossible t lines start now history
+possible t lines history us start now lines_are right kept = record {
+  lines_are = lines_are;
+  allowed = right.allowed_before;
+  same_digests = right.same_digests;
+  shelf = record {
+    paid = rose_less (fault_marks (count t) history + sum_over (count t) (λ r. (us r).refused)) (fault_marks (count t) history) start.faults now.faults kept.paid (omega arith);
+    all_true = kept.all_true;
+    only_faults = kept.only_faults;
+    holds = λ tells r l. (kept.holds tells (λ q. no_split) r l).records;
+  };
+}
+
 -- the last line is the end
 last_closes : (t : Trace) (d : Line) → IsSound t → is_barrier_line (get_or t.lines (length t.lines - 1) d).what ≡ true
 last_closes t d sound =
@@ -95,17 +110,7 @@ replayed stands t start now d agents s text sound done is =
       history = done.history;
       sequential = stood.right.sequential f;
       watched = stood.right.watched f;
-      done = record {
-        lines_are = subst W (take-length t.lines) (subst L none done.lines_are f);
-        allowed = stood.right.allowed_before;
-        same_digests = stood.right.same_digests;
-        shelf = record {
-          paid = rose_less (fault_marks (count t) done.history + sum_over (count t) (λ r. (stood.us r).refused)) (fault_marks (count t) done.history) start.faults now.faults stood.shelf.paid (omega arith);
-          all_true = stood.shelf.all_true;
-          only_faults = stood.shelf.only_faults;
-          holds = λ tells r l. (stood.shelf.holds tells f r l).records;
-        };
-      };
+      done = possible t t.lines done.history stood.us start now (subst W (take-length t.lines) (subst L none done.lines_are f)) stood.right stood.shelf;
       report = record {
         items = stood.printed.items;
         answered = stood.printed.answered;

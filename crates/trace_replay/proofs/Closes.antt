@@ -15,7 +15,7 @@ use Rattle.trace_format.specs.declared.What.{What}
 use Rattle.trace_format.specs.declared.What.TheVariants as what
 use Rattle.trace_format.specs.Sound.{FitsClock, HasTime}
 use Rattle.router_account.specs.Barriers.{AreLeft, IsSplitWhere, closing_at}
-use Rattle.router_account.specs.Ledger.{Ledger, no_split, nothing_unfinished}
+use Rattle.router_account.specs.Ledger.{Ledger, Unfinished, no_split, nothing_unfinished}
 use Rattle.router_account.specs.Records.{Holds}
 use Rattle.router_account.specs.Shelves.{ShelfView}
 use Rattle.data_agent.specs.declared.Barrier.{Barrier}
@@ -35,7 +35,7 @@ use Rattle.trace_replay.specs.Agents.{Standing, PassesAll, IsPassedAt, IsReady, 
 use Rattle.trace_replay.specs.Barriers.{PrintsPending, Prints, closed_of, tick_items, end_items}
 use Rattle.trace_replay.specs.Printing.{splits_of, lefts_of, IsAnswerNamed}
 use Rattle.trace_replay.specs.Segments.{Splits, filled, AreOnce, IsFirst, IsForward, archived_in, answer_of, Pending, numbered, pending_of, pending_items}
-use Rattle.trace_replay.specs.Standing.{Stands, IsNext, AreFew, IsPrinted, AreSplits, pending_at}
+use Rattle.trace_replay.specs.Standing.{Stands, IsNext, AreFew, IsPrinted, IsRight, IsKeptOn, AreSplits, pending_at}
 use Rattle.trace_replay.proofs.Filled.{moment_of, clock_filled, forward_filled, length_filled}
 use Rattle.trace_replay.proofs.Inner.{answers_count, late_by, room_at, stands_at}
 use Rattle.trace_replay.proofs.Numbered.{answers_back}
@@ -161,15 +161,48 @@ module _ {A : Type 0} (stands : Standing A) (t : Trace) (start : ShelfView) (his
         let P : Ledger → Type 0 = λ x. AreLeft (rules_of t r) (before_of r) x (lefts_of barriers r) in
         subst P (sym (link r l)) (here r l).told.left
 
-    -- the agents and the shelf may have been asked further, and stand for the same
-    pub stands_closed : (new : State) (end : ShelfView)
+    -- the events up to the barrier are right
+    pub right_behind : IsInTurn (rules_of t) F event → IsSequentialWatch (rules_of t) F event
+        → IsAllowedEvent (count t) (rules_of t) F G event → IfQuery (HasSameDigests (count t) (rules_of t)) G event → IsRight t G []
+    right_behind turn watch allowed digest = record {
+      sequential = λ f'. (old.right.sequential f, turn);
+      watched = λ f'. (old.right.watched f, watch);
+      allowed_before = (old.right.allowed f splits_ok, allowed);
+      allowed = λ f' hyp. (old.right.allowed f splits_ok, allowed);
+      same_digests = (each_filled (HasSameDigests (count t) (rules_of t)) f seg history old.ordered.inner old.right.same_digests, digest);
+    }
+
+    abbrev none_left : ℕ → Unfinished
+    none_left r = nothing_unfinished
+
+    -- what the shelf came to, which may have been asked further
+    pub shelf_behind : (end : ShelfView)
         → now.faults ≤ end.faults → end.tells ≡ now.tells → (now.tells ≡ true → IsSame now.contents end.contents)
-        → new.clock ≡ clock G → new.clock < 2 ^ 48 → new.first ≡ length G → new.answers.items ≡ [] → IsForward event (clock F) → IsInTurn (rules_of t) F event → IsSequentialWatch (rules_of t) F event
-        → IsAllowedEvent (count t) (rules_of t) F G event → IfQuery (HasSameDigests (count t) (rules_of t)) G event → IsPrinted t G new.report.items new.totals
         → RoseBy (fault_marks (count t) F + fault_marks_by (count t) event) start.faults end.faults
         → (start.tells ≡ true → IfQuery (IsTrueQuery (count t) (rules_of t)) G event) → (start.tells ≡ true → IfQuery (HasOnlyFaults (count t)) G event)
+        → IsKeptOn t G [] none_left start end
+    shelf_behind end later still same paid all_true only_faults = record {
+      later = let a = old.shelf.later in let b = all.later in omega (arith, a, b, later);
+      still = still ∙ all.still ∙ old.shelf.still;
+      paid = let z = sum_none (count t) in rose_less (fault_marks (count t) F + fault_marks_by (count t) event) ((fault_marks (count t) F + fault_marks_by (count t) event) + sum_over (count t) (λ r. 0)) start.faults end.faults paid (omega (arith, z));
+      all_true = λ tells. (each_filled (IsTrueQuery (count t) (rules_of t)) f seg history old.ordered.inner (old.shelf.all_true tells), all_true tells);
+      only_faults = λ tells. (each_filled (HasOnlyFaults (count t)) f seg history old.ordered.inner (old.shelf.only_faults tells), only_faults tells);
+      holds = λ tells f' r l.
+          let told : was.tells ≡ true = old.shelf.still ∙ tells in
+          let P : Ledger → Type 0 = λ x. Holds (rules_of t r) end.contents x in
+          record {
+            records = subst P (sym (link r l)) (holds_same (rules_of t r) now.contents end.contents (passed_by (rules_of t) time tick barriers before_of r) (same (all.still ∙ told)) (held_now told tells r l));
+            bits = λ x h. absurd (has_none x h);
+            true_bits = λ x h. absurd (has_none x h);
+          };
+    }
+
+    -- the agents and the shelf may have been asked further, and stand for the same
+    pub stands_closed : (new : State) (end : ShelfView)
+        → new.clock ≡ clock G → new.clock < 2 ^ 48 → new.first ≡ length G → new.answers.items ≡ [] → IsForward event (clock F)
+        → IsRight t G [] → IsPrinted t G new.report.items new.totals → IsKeptOn t G [] none_left start end
         → Stands stands t start G [] after new end
-    stands_closed new end later still same clock_is clock_fits first_is none forward turn watch allowed digest printed paid all_true only_faults =
+    stands_closed new end clock_is clock_fits first_is none forward right printed shelf =
         let count_is : length after ≡ count t = all.same ∙ old.count_is in
         record {
           count_is = count_is;
@@ -177,7 +210,7 @@ module _ {A : Type 0} (stands : Standing A) (t : Trace) (start : ShelfView) (his
           clock_fits = clock_fits;
           first_is = first_is;
           pending_is = ap (λ (xs : List Answer). numbered t.lines new.first xs) none;
-          us = λ r. nothing_unfinished;
+          us = none_left;
           us_none = λ r none. refl;
           us_closed = λ f' r x h. absurd (has_none x h);
           agents_stand = λ f'. record {
@@ -188,29 +221,9 @@ module _ {A : Type 0} (stands : Standing A) (t : Trace) (start : ShelfView) (his
             numbered = λ r. account_router (rules_of t) r G;
           };
           ordered = record { inner = tt; once = tt; barred = is_b; forward = (forward_filled f seg history old.ordered.inner old.ordered.forward, forward) };
-          right = record {
-            sequential = λ f'. (old.right.sequential f, turn);
-            watched = λ f'. (old.right.watched f, watch);
-            allowed_before = (old.right.allowed f splits_ok, allowed);
-            allowed = λ f' hyp. (old.right.allowed f splits_ok, allowed);
-            same_digests = (each_filled (HasSameDigests (count t) (rules_of t)) f seg history old.ordered.inner old.right.same_digests, digest);
-          };
+          right = right;
           printed = printed;
-          shelf = record {
-            later = let a = old.shelf.later in let b = all.later in omega (arith, a, b, later);
-            still = still ∙ all.still ∙ old.shelf.still;
-            paid = let z = sum_none (count t) in rose_less (fault_marks (count t) F + fault_marks_by (count t) event) ((fault_marks (count t) F + fault_marks_by (count t) event) + sum_over (count t) (λ r. 0)) start.faults end.faults paid (omega (arith, z));
-            all_true = λ tells. (each_filled (IsTrueQuery (count t) (rules_of t)) f seg history old.ordered.inner (old.shelf.all_true tells), all_true tells);
-            only_faults = λ tells. (each_filled (HasOnlyFaults (count t)) f seg history old.ordered.inner (old.shelf.only_faults tells), only_faults tells);
-            holds = λ tells f' r l.
-                let told : was.tells ≡ true = old.shelf.still ∙ tells in
-                let P : Ledger → Type 0 = λ x. Holds (rules_of t r) end.contents x in
-                record {
-                  records = subst P (sym (link r l)) (holds_same (rules_of t r) now.contents end.contents (passed_by (rules_of t) time tick barriers before_of r) (same (all.still ∙ told)) (held_now told tells r l));
-                  bits = λ x h. absurd (has_none x h);
-                  true_bits = λ x h. absurd (has_none x h);
-                };
-          };
+          shelf = shelf;
         }
 
   -- the next segment begins behind the barrier
@@ -281,11 +294,11 @@ module _ {A : Type 0} (stands : Standing A) (t : Trace) (start : ShelfView) (his
           f,
           tick_event,
           subst W (sym is) refl,
-          stands_closed line.number tick_event refl tick_link new now (omega arith) refl (λ told name. refl)
-              prints.clock_is (subst T (sym prints.clock_is) (subst HasTime is has_time)) (first_behind (moment_of line.number tick_event) mid new pends prints.first) (prints.answers ∙ pends.answers) (omega (arith, later, e)) tt tt
-              (left_ok line.number tick_event refl tick_link) tt
+          stands_closed line.number tick_event refl tick_link new now
+              prints.clock_is (subst T (sym prints.clock_is) (subst HasTime is has_time)) (first_behind (moment_of line.number tick_event) mid new pends prints.first) (prints.answers ∙ pends.answers) (omega (arith, later, e))
+              (right_behind line.number tick_event refl tick_link tt tt (left_ok line.number tick_event refl tick_link) tt)
               (printed_more line.number tick_event mid new (tick_items t barriers line.number time) time pends prints tick_are tick_quiet)
-              barrier_paid (λ told. tt) (λ told. tt),
+              (shelf_behind line.number tick_event refl tick_link now (omega arith) refl (λ told name. refl) barrier_paid (λ told. tt) (λ told. tt)),
         )
 
   -- ---- the end
@@ -315,9 +328,9 @@ module _ {A : Type 0} (stands : Standing A) (t : Trace) (start : ShelfView) (his
           f,
           end_event,
           subst W (sym is) tt,
-          stands_closed line.number end_event refl end_link new now (omega arith) refl (λ told name. refl)
-              (prints.clock_is ∙ sym same_time ∙ sym clock_now) (subst T (sym prints.clock_is) old.clock_fits) (first_behind (moment_of line.number end_event) mid new pends prints.first) (prints.answers ∙ pends.answers) tt tt tt
-              (left_ok line.number end_event refl end_link) tt
+          stands_closed line.number end_event refl end_link new now
+              (prints.clock_is ∙ sym same_time ∙ sym clock_now) (subst T (sym prints.clock_is) old.clock_fits) (first_behind (moment_of line.number end_event) mid new pends prints.first) (prints.answers ∙ pends.answers) tt
+              (right_behind line.number end_event refl end_link tt tt (left_ok line.number end_event refl end_link) tt)
               (printed_more line.number end_event mid new (end_items t barriers line.number) s.clock pends prints refl end_quiet)
-              barrier_paid (λ told. tt) (λ told. tt),
+              (shelf_behind line.number end_event refl end_link now (omega arith) refl (λ told name. refl) barrier_paid (λ told. tt) (λ told. tt)),
         )

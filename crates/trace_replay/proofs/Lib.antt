@@ -4,7 +4,6 @@ pub mod Closed
 pub mod Closes
 pub mod Doing
 pub mod Filled
-pub mod FirstUnbuilt
 pub mod Held
 pub mod Inner
 pub mod Named
@@ -17,7 +16,7 @@ pub mod Pieces
 pub mod Quiet
 pub mod RowCounts
 pub mod Seeing
+pub mod Sighted
 pub mod Sums
 pub mod Texts
-pub mod Unshelved
 pub mod Within

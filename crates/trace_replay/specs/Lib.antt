@@ -1,8 +1,8 @@
 pub mod Agents
 pub mod Asking
 pub mod Barriers
-pub mod Built
 pub mod Loop
 pub mod Printing
 pub mod Segments
+pub mod Sights
 pub mod Standing

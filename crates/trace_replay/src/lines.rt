@@ -1,15 +1,16 @@
 // The lines of a segment, one after another.
 ghost use Rattle.std.specs.Prelude.{◌≡◌, ◌<◌, true, false, OnOk, length, slice_get, Some};
-ghost use Rattle.trace_format.specs.declared.What.TheVariants.{Fwd, Xf, Rotate, Watch as WatchLine};
+ghost use Rattle.trace_format.specs.declared.What.TheVariants.{Fwd, Xf, Rotate, Archive, Watch as WatchLine};
 ghost use Rattle.router_account.specs.Shelves.{ShelfView};
 ghost use Rattle.data_agent.specs.Standing.{StandsFor};
-ghost use Rattle.trace_replay.specs.Built.{is_built};
+ghost use Rattle.trace_replay.specs.Agents.{view_of};
 ghost use Rattle.trace_replay.specs.Segments.{is_barrier_line};
 ghost use Rattle.trace_replay.specs.Standing.{IsNext, Does, Adds};
 
 use crate::state::{Answer, State};
 use data_agent::Agent;
 use packet_signature::{Kind, row};
+use page_shelf::Shelf;
 use spie_base::{NoMemory, RouterId, Sig};
 use std::alloc::Global;
 use trace_format::{Line, Trace, What};
@@ -111,19 +112,41 @@ fn watch(
     Ok(())
 }
 
-/// A line of a segment.
-pub fn line_within(
+// How the pages are split is known at the barrier, and so the line is printed there.
+fn archive<H: Shelf>(
     alloc: Global,
     trace: &Trace,
     line: &Line,
+    router: RouterId,
+    shelf: &mut H,
     agents: &mut [Agent],
     state: &mut State,
 ) -> Result<(), NoMemory>
-    requires built { is_built line.now.what ≡ true }
+    requires is { line.now.what ≡ Archive router }
+    requires ready { IsNext StandsFor trace.now line.now agents.old state.old
+        (view_of H.tells H.contents H.faults shelf.old) }
+    ensures { OnOk result (Does StandsFor trace.now line.now agents.old agents.new state.old state.new
+        (view_of H.tells H.contents H.faults shelf.old) (view_of H.tells H.contents H.faults shelf.new)) }
+{
+    agents[router.number as usize].archive(alloc, shelf)?;
+    answered(state, Answer::Archived(router))?;
+    Ok(())
+}
+
+/// A line of a segment.
+pub fn line_within<H: Shelf>(
+    alloc: Global,
+    trace: &Trace,
+    line: &Line,
+    shelf: &mut H,
+    agents: &mut [Agent],
+    state: &mut State,
+) -> Result<(), NoMemory>
     requires inner { is_barrier_line line.now.what ≡ false }
-    requires ready { (now : ShelfView) × IsNext StandsFor trace.now line.now agents.old state.old now }
-    ensures { OnOk result ((now : ShelfView) →
-        Does StandsFor trace.now line.now agents.old agents.new state.old state.new now now) }
+    requires ready { IsNext StandsFor trace.now line.now agents.old state.old
+        (view_of H.tells H.contents H.faults shelf.old) }
+    ensures { OnOk result (Does StandsFor trace.now line.now agents.old agents.new state.old state.new
+        (view_of H.tells H.contents H.faults shelf.old) (view_of H.tells H.contents H.faults shelf.new)) }
 {
     match line.what {
         What::Fwd { router, packet } => forward(trace, line, router, packet, agents, state),
@@ -134,6 +157,7 @@ pub fn line_within(
             new,
         } => transform(alloc, trace, line, router, kind, old, new, agents, state),
         What::Rotate { router } => rotate(alloc, trace, line, router, agents, state),
+        What::Archive { router } => archive(alloc, trace, line, router, shelf, agents, state),
         What::Watch { router, packet } => watch(trace, line, router, packet, agents, state),
         _ => unreachable!(),
     }

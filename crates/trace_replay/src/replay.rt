@@ -1,12 +1,10 @@
 // The replay of a trace by one worker.
-ghost use Rattle.std.specs.Prelude.{◌≡◌, true, None, IfOk, OnOk, length};
-ghost use Rattle.std.specs.List.{All};
+ghost use Rattle.std.specs.Prelude.{◌≡◌, IfOk, OnOk, length, take};
 ghost use Rattle.topology.specs.Layout.{IsSound as IsSoundLayout};
 ghost use Rattle.trace_format.specs.Sound.{IsSound};
 ghost use Rattle.trace_history.specs.Replay.{IsReplayed};
 ghost use Rattle.data_agent.specs.Standing.{StandsFor};
 ghost use Rattle.trace_replay.specs.Agents.{view_of, views_of};
-ghost use Rattle.trace_replay.specs.Built.{is_built, first_unbuilt_of};
 ghost use Rattle.trace_replay.specs.Loop.{HasDone, Proceeds};
 ghost use Rattle.trace_replay.specs.Segments.{is_barrier_line};
 ghost use Rattle.trace_replay.specs.Standing.{IsBegun, IsNext};
@@ -51,7 +49,6 @@ fn step<H: Shelf>(
     agents: &mut [Agent],
     state: &mut State,
 ) -> Result<(), NoMemory>
-    requires built { is_built line.now.what ≡ true }
     requires links { IsSoundLayout trace.now.topology }
     requires ready { IsNext StandsFor trace.now line.now agents.old state.old
         (view_of H.tells H.contents H.faults shelf.old) }
@@ -62,7 +59,7 @@ fn step<H: Shelf>(
         line_closing(alloc, trace, line, shelf, agents, state)?;
         return Ok(());
     }
-    line_within(alloc, trace, line, agents, state)?;
+    line_within(alloc, trace, line, shelf, agents, state)?;
     Ok(())
 }
 
@@ -75,8 +72,7 @@ fn all_lines<H: Shelf>(
     state: &mut State,
 ) -> Result<(), NoMemory>
     requires sound { IsSound trace.now }
-    requires built { All (λ line. is_built line.what ≡ true) lines.now }
-    requires lines { lines.now ≡ trace.now.lines }
+    requires lines { lines.now ≡ take (length lines.now) trace.now.lines }
     requires begins { HasDone StandsFor trace.now (view_of H.tells H.contents H.faults shelf.old) 0
         agents.old state.old (view_of H.tells H.contents H.faults shelf.old) }
     ensures { OnOk result (HasDone StandsFor trace.now (view_of H.tells H.contents H.faults shelf.old) (length lines.now)
@@ -102,8 +98,28 @@ fn begun(alloc: Global, trace: &Trace) -> Result<State, NoMemory>
     })
 }
 
+/// Replays the first lines of a trace, by agents of its routers that take the place of what was there. The state is
+/// that behind the last of these lines.
+pub fn replay_lines<H: Shelf>(
+    alloc: Global,
+    trace: &Trace,
+    lines: &[Line],
+    shelf: &mut H,
+    agents: &mut Vec<Agent>,
+) -> Result<State, NoMemory>
+    requires sound { IsSound trace.now }
+    requires lines { lines.now ≡ take (length lines.now) trace.now.lines }
+    ensures { IfOk result (λ state. HasDone StandsFor trace.now (view_of H.tells H.contents H.faults shelf.old) (length lines.now)
+        agents.new.items state (view_of H.tells H.contents H.faults shelf.new)) }
+{
+    *agents = open_all(alloc, &trace.rules, trace.topology.routers())?;
+    let mut state = begun(alloc, trace)?;
+    all_lines(alloc, trace, lines, shelf, agents, &mut state)?;
+    Ok(state)
+}
+
 /// Replays a trace with one worker over a shelf, segment by segment. The trace keeps to the rules on names, packets,
-/// numbers and times, as each trace that was read does, and has no line that can't be replayed yet.
+/// numbers and times, as each trace that was read does.
 ///
 /// Costs, for a record, 7·k multiplications, k bits that are set and one answer that is kept; for a watch, as much for
 /// each page of its window; for a barrier, what each router's does, and the lines of its segment's answers; for a query,
@@ -114,20 +130,11 @@ pub fn replay_alone<H: Shelf>(
     trace: &Trace,
     shelf: &mut H,
 ) -> Result<Replayed, NoMemory>
-    requires sound { IsSound trace.now }
-    requires built { first_unbuilt_of trace.now.lines ≡ None }
+    requires { IsSound trace.now }
     ensures { IfOk result (λ r. IsReplayed trace.now r.report r.totals (views_of H.tells H.contents H.faults shelf.old shelf.new)) }
 {
-    let mut agents = open_all(alloc, &trace.rules, trace.topology.routers())?;
-    let mut state = begun(alloc, trace)?;
-    all_lines(
-        alloc,
-        trace,
-        trace.lines.items(),
-        shelf,
-        &mut agents,
-        &mut state,
-    )?;
+    let mut agents = Vec::new(alloc);
+    let state = replay_lines(alloc, trace, trace.lines.items(), shelf, &mut agents)?;
     Ok(Replayed {
         report: List::of(state.report),
         totals: state.totals,

@@ -13,5 +13,5 @@ returns-then-is_barrier g c =
 pub returns : goal.returns
 returns g c =
     let view = view_of g.H.Shelf.tells g.H.Shelf.contents g.H.Shelf.faults in
-    proceeds_within StandsFor c.args.trace.now c.args.line.now c.args.agents.now c.line_within.new.agents c.args.state.now c.line_within.new.state (view c.args.shelf.now) (view c.args.shelf.now)
-    (sym c.is_barrier.ensures ∙ c.if-is_barrier.false) (c.in_ok-line_within.ensures (view c.args.shelf.now))
+    proceeds_within StandsFor c.args.trace.now c.args.line.now c.args.agents.now c.line_within.new.agents c.args.state.now c.line_within.new.state (view c.args.shelf.now) (view c.line_within.new.shelf)
+    (sym c.is_barrier.ensures ∙ c.if-is_barrier.false) c.in_ok-line_within.ensures
