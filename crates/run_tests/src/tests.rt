@@ -1,10 +1,12 @@
+use page_shelf::{MemShelf, Shelf};
 use spie_base::{MemSink, MemSource, Status};
-use spie_run::run;
+use spie_run::{run, shelf_word};
 use std::alloc::Global;
 use std::sync::Wait;
 use std::test::Fail;
 use std::thread::Threads;
 
+mod shelves;
 mod transforms;
 
 const PRELUDE: &str =
@@ -22,7 +24,33 @@ const N1: &str = "4500001c0001000040110000c00002010a0000020102030405060708";
 // The signature of the first two.
 const SIG: &str = "4500001c00010000001100000a0000010a0000020102030405060708";
 
-// Runs, with a source whose call of this number fails and a sink of this room.
+// The arguments of a command line.
+fn owned(alloc: Global, words: &[&str]) -> Result<Vec<String>, Fail> {
+    let mut owned = Vec::new(alloc);
+    for word in words {
+        owned.push(String::from_str(alloc, word)?)?;
+    }
+    Ok(owned)
+}
+
+// Runs over a shelf, with a source whose call of this number fails and a sink of this room.
+fn ran_over<R: Threads + Wait + Sync + AllocGlobal, H: Shelf + Send>(
+    rt: &R,
+    words: &[&str],
+    input: &str,
+    failing: u64,
+    room: usize,
+    shelf: &mut H,
+) -> Result<(Status, Vec<u8>), Fail> {
+    let alloc = rt.alloc();
+    let owned = owned(alloc, words)?;
+    let mut source = MemSource::new(alloc, input.as_bytes(), 100, &[failing])?;
+    let mut sink = MemSink::new(alloc, 1000, room, &[])?;
+    let status = run(rt, alloc, &owned, &mut source, &mut sink, shelf);
+    Ok((status, Vec::from_slice(alloc, sink.written())?))
+}
+
+// The same over a shelf in memory that never fails.
 fn ran<R: Threads + Wait + Sync + AllocGlobal>(
     rt: &R,
     words: &[&str],
@@ -30,15 +58,8 @@ fn ran<R: Threads + Wait + Sync + AllocGlobal>(
     failing: u64,
     room: usize,
 ) -> Result<(Status, Vec<u8>), Fail> {
-    let alloc = rt.alloc();
-    let mut owned = Vec::new(alloc);
-    for word in words {
-        owned.push(String::from_str(alloc, word)?)?;
-    }
-    let mut source = MemSource::new(alloc, input.as_bytes(), 100, &[failing])?;
-    let mut sink = MemSink::new(alloc, 1000, room, &[])?;
-    let status = run(rt, alloc, &owned, &mut source, &mut sink);
-    Ok((status, Vec::from_slice(alloc, sink.written())?))
+    let mut shelf = MemShelf::new(rt.alloc(), &[])?;
+    ran_over(rt, words, input, failing, room, &mut shelf)
 }
 
 // Whether `replay 1` on the prelude and more lines ends so, and with this output.
@@ -251,7 +272,7 @@ const REFUSALS: [(&str, &str, &str, &str); 9] = [
     (P0, "fwd a 1", "end\n", "refused 13 no-packet\n"),
     (P0, "xf a ipip 0 0", "end\n", "refused 13 kind\n"),
     (P0, "query c 0 0", "end\nx\n", "refused 15 after\n"),
-    (P0, "archive a", "end\n", "refused 13 unbuilt\n"),
+    (P0, "archive a", "archive a\nend\n", "refused 14 twice\n"),
 ];
 
 #[test]
@@ -311,6 +332,19 @@ fn play_a_visitor(rt: HostRuntime) -> Result<(), Fail> {
     Ok(())
 }
 
+// Wrong arguments: wrong numbers of workers, a folder without a name, too few words and too many.
+const USAGES: [&[&str]; 9] = [
+    &["replay", "0"],
+    &["replay", "17"],
+    &["replay", "01"],
+    &["replay", ""],
+    &["replay", "1", ""],
+    &["replay", "01", "pages"],
+    &["replay", "1", "pages", "pages"],
+    &[],
+    &["play", "1"],
+];
+
 #[test]
 fn faults_and_usage(rt: HostRuntime) -> Result<(), Fail> {
     let alloc = rt.alloc();
@@ -321,15 +355,12 @@ fn faults_and_usage(rt: HostRuntime) -> Result<(), Fail> {
     let (status, output) = ran(&rt, &["replay", "1"], &input, 9999, 19)?;
     assert_eq!(rt; status, Status::WriteFault);
     assert_eq!(rt; *output.as_slice(), *b"spie-report 1\n9 end".as_slice());
-    for word in ["0", "17", "01", ""] {
-        let (status, output) = ran(&rt, &["replay", word], &input, 0, 0)?;
-        assert_eq!(rt; status, Status::Usage, "{word}");
+    for words in USAGES {
+        let (status, output) = ran(&rt, words, &input, 0, 0)?;
+        assert_eq!(rt; status, Status::Usage, "{words:?}");
         assert_eq!(rt; output.len(), 0);
+        assert!(rt; shelf_word(&owned(alloc, words)?).is_none(), "{words:?}");
     }
-    let (status, _) = ran(&rt, &[], &input, 0, 0)?;
-    assert_eq!(rt; status, Status::Usage);
-    let (status, _) = ran(&rt, &["play", "1"], &input, 0, 0)?;
-    assert_eq!(rt; status, Status::Usage);
     let (status, _) = ran(&rt, &["play"], &input, 0, 1000)?;
     assert_eq!(rt; status, Status::ReadFault);
     let (status, output) = ran(&rt, &["play"], "spie-play 1\n", 9999, 5)?;

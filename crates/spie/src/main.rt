@@ -1,12 +1,14 @@
 //! spie: replays a trace of a hash-based traceback system, or plays a script of steps of a router's gate, from
 //! standard input to standard output.
 //!
-//! `spie replay 1 < trace > report`, `spie play < script > answers`. It ends with the number of the run's
-//! status: 0 done, 2 unknown command or wrong arguments, 3 the input is refused, 4 the input can't be read,
+//! `spie replay 1 < trace > report`, `spie replay 1 FOLDER < trace > report`, `spie play < script > answers`. Pages
+//! that are archived go to files in FOLDER, which has to be there, and without it to memory. It ends with the number of
+//! the run's status: 0 done, 2 unknown command or wrong arguments, 3 the input is refused, 4 the input can't be read,
 //! 5 the output can't be written, 6 there is no memory. Standard error says the same in a sentence.
 //!
 //! What it does is the contract of `spie_run::run`; here stand only the edges: the arguments, standard input and
-//! output, and what is said on standard error (`messages`), for which `front_sink` remembers how the output began.
+//! output, the shelf, and what is said on standard error (`messages`), for which `front_sink` remembers how the output
+//! began.
 #![tactic(auto)]
 
 mod front_sink;
@@ -14,10 +16,13 @@ mod messages;
 
 use crate::front_sink::FrontSink;
 use crate::messages::explain;
-use spie_base::{IoSink, IoSource, NoMemory, Status};
-use spie_run::run;
+use page_shelf::{FolderShelf, MemShelf, Shelf};
+use spie_base::{IoSink, IoSource, NoMemory, Sink, Source, Status};
+use spie_run::{run, shelf_word};
 use std::alloc::Global;
 use std::process::ExitCode;
+use std::sync::Wait;
+use std::thread::Threads;
 use std::{env, io};
 
 // The arguments. Where one of them is not UTF-8, one empty argument is passed in place of all, which is no command.
@@ -34,6 +39,21 @@ fn words(rt: &HostRuntime, alloc: Global) -> Result<Vec<String>, NoMemory> {
     Ok(words)
 }
 
+// Runs over a shelf, where there was memory for it.
+fn run_over<R: Threads + Wait + Sync, S: Source, K: Sink, H: Shelf + Send + Drop>(
+    rt: &R,
+    alloc: Global,
+    words: &[String],
+    source: &mut S,
+    sink: &mut K,
+    shelf: Result<H, NoMemory>,
+) -> Status {
+    match shelf {
+        Ok(mut shelf) => run(rt, alloc, words, source, sink, &mut shelf),
+        Err(NoMemory) => Status::NoMemory,
+    }
+}
+
 fn main(rt: HostRuntime) -> ExitCode {
     let alloc = rt.alloc();
     let Ok(words) = words(&rt, alloc) else {
@@ -41,7 +61,16 @@ fn main(rt: HostRuntime) -> ExitCode {
     };
     let mut source = IoSource::new(rt.reader());
     let mut sink = FrontSink::new(IoSink::new(io::writer(&rt)));
-    let status = run(&rt, alloc, &words, &mut source, &mut sink);
+    let status = match shelf_word(&words) {
+        Some(folder) => {
+            let shelf = FolderShelf::new(alloc, &rt, folder);
+            run_over(&rt, alloc, &words, &mut source, &mut sink, shelf)
+        }
+        None => {
+            let shelf = MemShelf::new(alloc, &[]);
+            run_over(&rt, alloc, &words, &mut source, &mut sink, shelf)
+        }
+    };
     let _ = explain(&rt, status, sink.front());
     ExitCode::from(status.code())
 }

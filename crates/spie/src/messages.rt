@@ -1,12 +1,14 @@
 // What is said on standard error, where standard output is silent or has a refusal.
 use spie_base::Status;
 
-const USAGE: &str = "usage: spie replay 1 < TRACE > REPORT     replays a trace with one worker
-       spie play < SCRIPT > ANSWERS        does the steps of a script on the gate of a router's pages
+const USAGE: &str =
+    "usage: spie replay 1 < TRACE > REPORT            replays a trace with one worker
+       spie replay 1 FOLDER < TRACE > REPORT     the same, with archived pages in files of this folder
+       spie play < SCRIPT > ANSWERS              does the steps of a script on the gate of a router's pages
 example: spie replay 1 < examples/three_in_a_line.trace";
 
 // Each word of a refusal, and what it says.
-const REFUSALS: [(&str, &str); 23] = [
+const REFUSALS: [(&str, &str); 22] = [
     ("too-long", "the input has more than 67,108,864 bytes"),
     ("after", "there is more input behind the line `end`"),
     (
@@ -50,7 +52,6 @@ const REFUSALS: [(&str, &str); 23] = [
         "twice",
         "this router was archived already since the last tick or query",
     ),
-    ("unbuilt", "this command can't be replayed yet"),
 ];
 
 // What the word of a refusal says.

@@ -8,31 +8,34 @@ use Rattle.spie_base.specs.declared.Status.{Status}
 use Rattle.spie_base.specs.declared.Status.TheVariants as status
 use Rattle.trace_format.specs.Fault.{too_long}
 use Rattle.trace_format.specs.Limits.{most_bytes}
-use Rattle.trace_format.specs.Trace.{IsTrace}
-use Rattle.trace_format.specs.declared.Trace.{Trace}
 use Rattle.spie_run.specs.Refusals.{fault_text}
 use Rattle.spie_run.specs.declared.words.Command.{Command}
 use Rattle.spie_run.specs.declared.words.Command.TheVariants.{Replay, Play}
 use Rattle.spie_run.specs.Words.{command_of}
-use Rattle.spie_run.specs.Run.{Refuses, Answers, AnswersTrace, Views, Delivered, IsDone, IsRefused, IsCutShort, HasFailed, Ran}
+use Rattle.trace_history.specs.Replay.{ReplayViews}
+use Rattle.spie_run.specs.Run.{Outputs, Refuses, Answers, Views, Delivered, IsDone, IsRefused, IsCutShort, IsUntouched, HasFailed, Ran, shelf_views}
 
--- the answer to a trace is the answer to the text that it was read from
-pub answers_text : (s : Status) (text output : List ℕ) (trace : Trace) → IsTrace text trace → AnswersTrace s trace output → Answers Replay s text output
-answers_text status.Done text output trace read h = record { trace = trace; totals = h.1.0; read = read; built = h.0; replayed = h.1.1 }
-answers_text status.TraceRefused text output trace read h = inr (h.0, (record { trace = trace; read = read; first = h.1 }), h.2)
-answers_text status.No text output trace read h = absurd h
-answers_text status.Usage text output trace read h = absurd h
-answers_text status.ReadFault text output trace read h = absurd h
-answers_text status.WriteFault text output trace read h = absurd h
-answers_text status.NoMemory text output trace read h = absurd h
+-- a script leaves the shelf as it is, and so does what is refused
+still_at : (command : Command) (shelves : ReplayViews) (input output : List ℕ) → command ≡ Play → Outputs command shelves input output → IsUntouched shelves
+still_at Replay shelves input output e made = absurd (let q : Replay ≡ Play = e in cc)
+still_at Play shelves input output e made = made.untouched
+
+still_by : (command : Command) (s : Status) (shelves : ReplayViews) (input output : List ℕ) → command ≡ Play → Answers command s shelves input output → IsUntouched shelves
+still_by command status.Done shelves input output e made = still_at command shelves input output e made
+still_by command status.TraceRefused shelves input output e made = made.untouched
+still_by command status.No shelves input output e made = absurd made
+still_by command status.Usage shelves input output e made = absurd made
+still_by command status.ReadFault shelves input output e made = absurd made
+still_by command status.WriteFault shelves input output e made = absurd made
+still_by command status.NoMemory shelves input output e made = absurd made
 
 -- an input that is longer than its limit
 too_long_text : codes "refused 0 too-long\n" ≡ fault_text too_long
 too_long_text = ap (λ digits. codes "refused " ++ digits ++ 32 ∷ codes "too-long" ++ 10 ∷ []) (sym (decimal_digit 0 (lit< tt)))
 
-refused_long : (command : Command) (input : List ℕ) → most_bytes < length input → Refuses command input (codes "refused 0 too-long\n")
-refused_long Replay input long = inl (too_long, inl (long, refl), too_long_text)
-refused_long Play input long = (too_long, inl (long, refl), too_long_text)
+refused_long : (command : Command) (shelves : ReplayViews) (input : List ℕ) → IsUntouched shelves → most_bytes < length input → Refuses command shelves input (codes "refused 0 too-long\n")
+refused_long Replay shelves input same long = record { fault = too_long; first = inl (long, refl); says = too_long_text; untouched = same }
+refused_long Play shelves input same long = record { fault = too_long; first = inl (long, refl); says = too_long_text; untouched = same }
 
 past_limit : (bytes : List ℕ) → length bytes ≡ most_bytes + 1 → most_bytes < length bytes
 past_limit bytes e = omega (arith, e)
@@ -49,6 +52,8 @@ ran_usage words v none = record {
   write_fault = λ e. absurd (let q : status.Usage ≡ status.WriteFault = e in cc);
   faultless = λ h. absurd h;
   read_first = λ e. absurd (let q : status.Usage ≡ status.WriteFault = e in cc);
+  idle = λ h. refl;
+  plays_alone = λ e. refl;
   complete = λ some. absurd (let q : IsSome {T = Command} None = subst IsSome none some in cc);
 }
 
@@ -56,9 +61,12 @@ module _ (words : List (List ℕ)) (before after : Views) (command : Command) (a
   no_usage : command_of words ≡ None → ⊥
   no_usage none = let q : Some command ≡ None = sym asked ∙ none in cc
 
+  it_plays : command_of words ≡ Some Play → command ≡ Play
+  it_plays e = let q : Some command ≡ Some Play = sym asked ∙ e in cc
+
   -- the source failed
-  pub ran_unread : HasFailed before.source after.source → Ran words before after status.ReadFault
-  ran_unread failed = record {
+  pub ran_unread : HasFailed before.source after.source → after.shelf ≡ before.shelf → Ran words before after status.ReadFault
+  ran_unread failed same = record {
     done = λ e. absurd (let q : status.ReadFault ≡ status.Done = e in cc);
     refused = λ e. absurd (let q : status.ReadFault ≡ status.TraceRefused = e in cc);
     cut_short = λ e. absurd (let q : status.ReadFault ≡ status.WriteFault = e in cc);
@@ -68,12 +76,14 @@ module _ (words : List (List ℕ)) (before after : Views) (command : Command) (a
     write_fault = λ e. absurd (let q : status.ReadFault ≡ status.WriteFault = e in cc);
     faultless = λ h. absurd h;
     read_first = λ e. absurd (let q : status.ReadFault ≡ status.WriteFault = e in cc);
-    complete = λ some whole written. absurd (whole failed);
+    idle = λ h. same;
+    plays_alone = λ e. same;
+    complete = λ some well. absurd (well.0 failed);
   }
 
   -- memory was refused
-  pub ran_no_memory : after.source.faults ≡ before.source.faults → after.sink.faults ≡ before.sink.faults → Ran words before after status.NoMemory
-  ran_no_memory read kept = record {
+  pub ran_no_memory : after.source.faults ≡ before.source.faults → after.sink.faults ≡ before.sink.faults → (command ≡ Play → after.shelf ≡ before.shelf) → Ran words before after status.NoMemory
+  ran_no_memory read kept still = record {
     done = λ e. absurd (let q : status.NoMemory ≡ status.Done = e in cc);
     refused = λ e. absurd (let q : status.NoMemory ≡ status.TraceRefused = e in cc);
     cut_short = λ e. absurd (let q : status.NoMemory ≡ status.WriteFault = e in cc);
@@ -83,12 +93,14 @@ module _ (words : List (List ℕ)) (before after : Views) (command : Command) (a
     write_fault = λ e. absurd (let q : status.NoMemory ≡ status.WriteFault = e in cc);
     faultless = λ h. (read, kept);
     read_first = λ e. absurd (let q : status.NoMemory ≡ status.WriteFault = e in cc);
-    complete = λ some whole written. tt;
+    idle = λ h. absurd h;
+    plays_alone = λ e. still (it_plays e);
+    complete = λ some well. tt;
   }
 
   -- the output is written whole
-  ran_done : IsDone words before after → after.source.faults ≡ before.source.faults → after.sink.faults ≡ before.sink.faults → Ran words before after status.Done
-  ran_done is read kept = record {
+  ran_done : IsDone words before after → after.source.faults ≡ before.source.faults → after.sink.faults ≡ before.sink.faults → (command ≡ Play → after.shelf ≡ before.shelf) → Ran words before after status.Done
+  ran_done is read kept still = record {
     done = λ e. is;
     refused = λ e. absurd (let q : status.Done ≡ status.TraceRefused = e in cc);
     cut_short = λ e. absurd (let q : status.Done ≡ status.WriteFault = e in cc);
@@ -98,7 +110,9 @@ module _ (words : List (List ℕ)) (before after : Views) (command : Command) (a
     write_fault = λ e. absurd (let q : status.Done ≡ status.WriteFault = e in cc);
     faultless = λ h. (read, kept);
     read_first = λ e. absurd (let q : status.Done ≡ status.WriteFault = e in cc);
-    complete = λ some whole written. tt;
+    idle = λ h. absurd h;
+    plays_alone = λ e. still (it_plays e);
+    complete = λ some well. tt;
   }
 
   -- the line of a refusal is written whole
@@ -113,12 +127,14 @@ module _ (words : List (List ℕ)) (before after : Views) (command : Command) (a
     write_fault = λ e. absurd (let q : status.TraceRefused ≡ status.WriteFault = e in cc);
     faultless = λ h. (read, kept);
     read_first = λ e. absurd (let q : status.TraceRefused ≡ status.WriteFault = e in cc);
-    complete = λ some whole written. tt;
+    idle = λ h. is.refuses.untouched;
+    plays_alone = λ e. is.refuses.untouched;
+    complete = λ some well. tt;
   }
 
   -- the sink failed
-  ran_cut_short : IsCutShort words before after → after.source.faults ≡ before.source.faults → HasFailed before.sink after.sink → Ran words before after status.WriteFault
-  ran_cut_short is read failed = record {
+  ran_cut_short : IsCutShort words before after → after.source.faults ≡ before.source.faults → HasFailed before.sink after.sink → (command ≡ Play → after.shelf ≡ before.shelf) → Ran words before after status.WriteFault
+  ran_cut_short is read failed still = record {
     done = λ e. absurd (let q : status.WriteFault ≡ status.Done = e in cc);
     refused = λ e. absurd (let q : status.WriteFault ≡ status.TraceRefused = e in cc);
     cut_short = λ e. is;
@@ -128,14 +144,17 @@ module _ (words : List (List ℕ)) (before after : Views) (command : Command) (a
     write_fault = λ e. failed;
     faultless = λ h. absurd h;
     read_first = λ e. read;
-    complete = λ some whole written. absurd (written failed);
+    idle = λ h. absurd h;
+    plays_alone = λ e. still (it_plays e);
+    complete = λ some well. absurd (well.1 failed);
   }
 
   -- a text that is written whole ends the run as the answer says
   ran_whole : (want : Status) (text output : List ℕ) → Consumes before.source.bytes after.source.bytes text → IsAtEnd after.source.bytes → after.source.faults ≡ before.source.faults
-      → Answers command want text output → Appends before.sink.bytes after.sink.bytes output → after.sink.faults ≡ before.sink.faults → Ran words before after want
+      → Answers command want (shelf_views before after) text output → Appends before.sink.bytes after.sink.bytes output → after.sink.faults ≡ before.sink.faults → Ran words before after want
   ran_whole status.Done text output took end read answers wrote kept =
       ran_done (record { command = command; input = text; output = output; asked = asked; read = took; at_end = end; made = answers; written = wrote }) read kept
+      (λ e. still_by command status.Done (shelf_views before after) text output e answers)
   ran_whole status.TraceRefused text output took end read answers wrote kept =
       ran_refused (record { command = command; input = text; output = output; asked = asked; read = (took, inl end); refuses = answers; written = wrote }) read kept
   ran_whole status.No text output took end read answers wrote kept = absurd answers
@@ -146,21 +165,30 @@ module _ (words : List (List ℕ)) (before after : Views) (command : Command) (a
 
   -- the input was read to its end, and its answer delivered
   pub ran_reply : (want answer : Status) (text output : List ℕ) → Consumes before.source.bytes after.source.bytes text → IsAtEnd after.source.bytes → after.source.faults ≡ before.source.faults
-      → Answers command want text output → Delivered want answer before.sink after.sink output → Ran words before after answer
+      → Answers command want (shelf_views before after) text output → Delivered want answer before.sink after.sink output → Ran words before after answer
   ran_reply want answer text output took end read answers d =
       let P : Status → Type 0 = λ s. Ran words before after s in
       ⊎_elim
-      (λ whole. subst P (sym whole.0) (ran_whole want text output took end read answers whole.1 whole.2))
-      (λ front. subst P (sym front.0) (ran_cut_short (record { command = command; input = text; status = want; output = output; asked = asked; read = (took, inl end); answers = answers; front = front.1 }) read front.2))
+      (λ whole. subst P (sym whole.0) (ran_whole want text output took end read answers whole.1.0 whole.1.1))
+      (λ cut.
+      subst P (sym cut.0)
+      (ran_cut_short (record { command = command; input = text; status = want; output = output; asked = asked; read = (took, inl end); answers = answers; front = cut.1.0 }) read cut.1.1
+      (λ e. still_by command want (shelf_views before after) text output e answers)))
       d.outcome
 
   -- the input is longer than its limit
   pub ran_long : (answer : Status) → TookCount before.source.bytes after.source.bytes (λ count. count ≡ most_bytes + 1) → after.source.faults ≡ before.source.faults
-      → Delivered status.TraceRefused answer before.sink after.sink (codes "refused 0 too-long\n") → Ran words before after answer
-  ran_long answer took read d =
-      let refuses = refused_long command took.0 (past_limit took.0 took.2) in
+      → Delivered status.TraceRefused answer before.sink after.sink (codes "refused 0 too-long\n") → after.shelf ≡ before.shelf → Ran words before after answer
+  ran_long answer took read d same =
+      let refuses = refused_long command (shelf_views before after) took.0 same (past_limit took.0 took.2) in
       let P : Status → Type 0 = λ s. Ran words before after s in
       ⊎_elim
-      (λ whole. subst P (sym whole.0) (ran_refused (record { command = command; input = took.0; output = codes "refused 0 too-long\n"; asked = asked; read = (took.1, inr took.2); refuses = refuses; written = whole.1 }) read whole.2))
-      (λ front. subst P (sym front.0) (ran_cut_short (record { command = command; input = took.0; status = status.TraceRefused; output = codes "refused 0 too-long\n"; asked = asked; read = (took.1, inr took.2); answers = refuses; front = front.1 }) read front.2))
+      (λ whole.
+      subst P (sym whole.0)
+      (ran_refused (record { command = command; input = took.0; output = codes "refused 0 too-long\n"; asked = asked; read = (took.1, inr took.2); refuses = refuses; written = whole.1.0 }) read whole.1.1))
+      (λ cut.
+      subst P (sym cut.0)
+      (ran_cut_short
+      (record { command = command; input = took.0; status = status.TraceRefused; output = codes "refused 0 too-long\n"; asked = asked; read = (took.1, inr took.2); answers = refuses; front = cut.1.0 })
+      read cut.1.1 (λ e. same)))
       d.outcome

@@ -36,7 +36,3 @@ refusal_text line word = codes "refused " ++ decimal line ++ 32 ∷ word ++ 10 �
 -- a text that is no trace, by its first fault
 abbrev pub fault_text : TraceRefused → List ℕ
 fault_text fault = refusal_text fault.line (why_word fault.why)
-
--- a trace with a line that can't be replayed yet
-abbrev pub unbuilt_text : (line : ℕ) → List ℕ
-unbuilt_text line = refusal_text line (codes "unbuilt")

@@ -1,7 +1,7 @@
--- What a run answers, and what it reads and writes.
+-- What a run answers, and what it reads, writes and keeps.
 --
--- Read `Ran` first, at the end: it is the promise of the program, by the arguments, the status, and what source and sink
--- tell before the run and after it.
+-- Read `Ran` first, at the end: it is the promise of the program, by the arguments, the status, and what source, sink and
+-- shelf tell before the run and after it.
 use Rattle.std.specs.Prelude.{ℕ, ◌+◌, ◌≤◌, ◌≡◌, ◌⊎◌, ◌↔◌, List, length, Some, None, IsSome}
 use Rattle.std.specs.declared.option.Option.{Option}
 use Rattle.std.specs.Io.KnownBytes.{Consumes, Appends, IsAtEnd}
@@ -13,61 +13,59 @@ use Rattle.play_script.specs.Fault as script_text
 use Rattle.play_script.specs.Report.{IsReport}
 use Rattle.play_script.specs.Script.{IsScript}
 use Rattle.play_script.specs.declared.script.PlayScript.{PlayScript}
+use Rattle.router_account.specs.Shelves.{ShelfView}
 use Rattle.trace_format.specs.Fault.{IsFault}
 use Rattle.trace_format.specs.Limits.{most_bytes}
 use Rattle.trace_format.specs.Trace.{IsTrace}
 use Rattle.trace_format.specs.declared.Trace.{Trace}
 use Rattle.trace_format.specs.declared.TraceRefused.{TraceRefused}
-use Rattle.trace_history.specs.Replay.{IsReplayed, no_shelf}
+use Rattle.trace_history.specs.Replay.{IsReplayed, ReplayViews}
 use Rattle.trace_history.specs.declared.Totals.{Totals}
-use Rattle.trace_replay.specs.Built.{first_unbuilt_of}
-use Rattle.spie_run.specs.Refusals.{fault_text, unbuilt_text}
+use Rattle.spie_run.specs.Refusals.{fault_text}
 use Rattle.spie_run.specs.Words.{command_of}
 use Rattle.spie_run.specs.declared.words.Command.{Command}
 use Rattle.spie_run.specs.declared.words.Command.TheVariants.{Replay, Play}
 
--- the input is a trace, and the output is the report of a replay of it by one worker
-pub record Reports (input output : List ℕ) : Type 0 where
+-- a shelf is after a run as it was before it
+abbrev pub IsUntouched : ReplayViews → Type 0
+IsUntouched shelves = shelves.shelf_after ≡ shelves.shelf_before
+
+-- the input is a trace, and the output is the report of a replay of it by one worker over a shelf
+pub record Reports (shelves : ReplayViews) (input output : List ℕ) : Type 0 where
   pub trace : Trace
   pub totals : Totals
   pub read : IsTrace input trace
-  pub built : first_unbuilt_of trace.lines ≡ None
-  pub replayed : IsReplayed trace output totals no_shelf
-
--- a trace with a line that can't be replayed yet, which is the first such
-pub record IsUnbuilt (input : List ℕ) (line : ℕ) : Type 0 where
-  pub trace : Trace
-  pub read : IsTrace input trace
-  pub first : first_unbuilt_of trace.lines ≡ Some line
+  pub replayed : IsReplayed trace output totals shelves
 
 -- the input is a script, and the output is the text of its steps, done in order from the start
-pub record Plays (input output : List ℕ) : Type 0 where
+pub record Plays (shelves : ReplayViews) (input output : List ℕ) : Type 0 where
   pub script : PlayScript
   pub read : IsScript input script
   pub played : IsReport script output
+  pub untouched : IsUntouched shelves
 
 -- the output is what the command makes of the input
-abbrev pub Outputs : Command → (input output : List ℕ) → Type 0
-Outputs Replay input output = Reports input output
-Outputs Play input output = Plays input output
+abbrev pub Outputs : Command → ReplayViews → (input output : List ℕ) → Type 0
+Outputs Replay shelves input output = Reports shelves input output
+Outputs Play shelves input output = Plays shelves input output
 
--- the input is no trace, or one that can't be replayed yet, or no script, and the output says so
-abbrev pub Refuses : Command → (input output : List ℕ) → Type 0
-Refuses Replay input output =
-    ((fault : TraceRefused) × IsFault input fault × (output ≡ fault_text fault)) ⊎ ((line : ℕ) × IsUnbuilt input line × (output ≡ unbuilt_text line))
-Refuses Play input output = (fault : TraceRefused) × script_text.IsFault input fault × (output ≡ fault_text fault)
+-- the first fault of an input that is no trace, or no script
+abbrev pub IsFaultFor : Command → (input : List ℕ) → TraceRefused → Type 0
+IsFaultFor Replay input fault = IsFault input fault
+IsFaultFor Play input fault = script_text.IsFault input fault
+
+-- the input has a fault, the output says so, and the shelf was not used
+pub record Refuses (command : Command) (shelves : ReplayViews) (input output : List ℕ) : Type 0 where
+  pub fault : TraceRefused
+  pub first : IsFaultFor command input fault
+  pub says : output ≡ fault_text fault
+  pub untouched : IsUntouched shelves
 
 -- what is written at the end of a run that read its input
-abbrev pub Answers : Command → Status → (input output : List ℕ) → Type 0
-Answers command status.Done input output = Outputs command input output
-Answers command status.TraceRefused input output = Refuses command input output
-Answers command _ input output = ⊥
-
--- the same of a trace that was read, for `replay 1`
-abbrev pub AnswersTrace : Status → Trace → (output : List ℕ) → Type 0
-AnswersTrace status.Done trace output = (first_unbuilt_of trace.lines ≡ None) × ((totals : Totals) × IsReplayed trace output totals no_shelf)
-AnswersTrace status.TraceRefused trace output = (line : ℕ) × (first_unbuilt_of trace.lines ≡ Some line) × (output ≡ unbuilt_text line)
-AnswersTrace _ trace output = ⊥
+abbrev pub Answers : Command → Status → ReplayViews → (input output : List ℕ) → Type 0
+Answers command status.Done shelves input output = Outputs command shelves input output
+Answers command status.TraceRefused shelves input output = Refuses command shelves input output
+Answers command _ shelves input output = ⊥
 
 -- ---- what a run was lent
 
@@ -80,21 +78,35 @@ pub record Told : Type 0 where
 pub record Views : Type 0 where
   pub source : Told
   pub sink : Told
+  pub shelf : ShelfView
 
 abbrev pub told : {X : Type 0} → (X → Option (List ℕ)) → (X → ℕ) → X → Told
 told bytes faults x = record { bytes = bytes x; faults = faults x }
 
-abbrev pub views : {S K : Type 0} → (S → Option (List ℕ)) → (S → ℕ) → (K → Option (List ℕ)) → (K → ℕ) → S → K → Views
-views left read_faults written write_faults source sink = record { source = told left read_faults source; sink = told written write_faults sink }
+abbrev pub views : (source sink : Told) → (shelf : ShelfView) → Views
+views source sink shelf = record { source = source; sink = sink; shelf = shelf }
+
+-- the shelf before a run and after it
+abbrev pub shelf_views : (before after : Views) → ReplayViews
+shelf_views before after = record { shelf_before = before.shelf; shelf_after = after.shelf }
 
 -- an input was read to its end, or to one byte past its limit
 abbrev pub IsReadOut : (before after : Told) → (input : List ℕ) → Type 0
-IsReadOut before after input = Consumes before.bytes after.bytes input × (IsAtEnd after.bytes ⊎ (length input ≡ most_bytes + 1))
+IsReadOut before after input =
+    Consumes before.bytes after.bytes input × (IsAtEnd after.bytes ⊎ (length input ≡ most_bytes + 1))
 
--- a text is written whole, or a prefix of it stands and the sink has failed
+-- a text was written whole
+abbrev pub IsWhole : (before after : Told) → (text : List ℕ) → Type 0
+IsWhole before after text = Appends before.bytes after.bytes text × (after.faults ≡ before.faults)
+
+-- a prefix of a text stands, and the sink has failed
+abbrev pub IsCut : (before after : Told) → (text : List ℕ) → Type 0
+IsCut before after text = AppendsFront before.bytes after.bytes text × Rose before.faults after.faults
+
+-- a text is written whole, or the answer is that it was not
 pub record Delivered (want answer : Status) (before after : Told) (text : List ℕ) : Type 0 where
   pub later : before.faults ≤ after.faults
-  pub outcome : ((answer ≡ want) × Appends before.bytes after.bytes text × (after.faults ≡ before.faults)) ⊎ ((answer ≡ status.WriteFault) × AppendsFront before.bytes after.bytes text × Rose before.faults after.faults)
+  pub outcome : ((answer ≡ want) × IsWhole before after text) ⊎ ((answer ≡ status.WriteFault) × IsCut before after text)
 
 -- ---- the statuses
 
@@ -106,7 +118,7 @@ pub record IsDone (words : List (List ℕ)) (before after : Views) : Type 0 wher
   pub asked : command_of words ≡ Some command
   pub read : Consumes before.source.bytes after.source.bytes input
   pub at_end : IsAtEnd after.source.bytes
-  pub made : Outputs command input output
+  pub made : Outputs command (shelf_views before after) input output
   pub written : Appends before.sink.bytes after.sink.bytes output
 
 -- TraceRefused: the input was read out, it is refused, and the line that says so was written
@@ -116,10 +128,10 @@ pub record IsRefused (words : List (List ℕ)) (before after : Views) : Type 0 w
   pub output : List ℕ
   pub asked : command_of words ≡ Some command
   pub read : IsReadOut before.source after.source input
-  pub refuses : Refuses command input output
+  pub refuses : Refuses command (shelf_views before after) input output
   pub written : Appends before.sink.bytes after.sink.bytes output
 
--- WriteFault: the input was read out, and a prefix stands of what was to be written
+-- WriteFault: the input was read out, what was to be written was made, and a prefix of it stands
 pub record IsCutShort (words : List (List ℕ)) (before after : Views) : Type 0 where
   pub command : Command
   pub input : List ℕ
@@ -127,7 +139,7 @@ pub record IsCutShort (words : List (List ℕ)) (before after : Views) : Type 0 
   pub output : List ℕ
   pub asked : command_of words ≡ Some command
   pub read : IsReadOut before.source after.source input
-  pub answers : Answers command status input output
+  pub answers : Answers command status (shelf_views before after) input output
   pub front : AppendsFront before.sink.bytes after.sink.bytes output
 
 -- the statuses of a run in which neither source nor sink failed, and whose arguments are right
@@ -137,8 +149,23 @@ IsFaultless status.TraceRefused = Unit {0}
 IsFaultless status.NoMemory = Unit {0}
 IsFaultless _ = ⊥
 
+-- the statuses of a run that replays nothing
+abbrev pub IsIdle : Status → Type 0
+IsIdle status.Usage = Unit {0}
+IsIdle status.ReadFault = Unit {0}
+IsIdle status.TraceRefused = Unit {0}
+IsIdle _ = ⊥
+
 abbrev pub HasFailed : (before after : Told) → Type 0
 HasFailed before after = Rose before.faults after.faults
+
+-- neither source nor sink has failed
+abbrev pub NoneFailed : (before after : Views) → Type 0
+NoneFailed before after = (HasFailed before.source after.source → ⊥) × (HasFailed before.sink after.sink → ⊥)
+
+-- the counts of faults of source and sink are as they were
+abbrev pub CountsStay : (before after : Views) → Type 0
+CountsStay before after = (after.source.faults ≡ before.source.faults) × (after.sink.faults ≡ before.sink.faults)
 
 -- A run with these arguments ended so
 pub record Ran (words : List (List ℕ)) (before after : Views) (answer : Status) : Type 0 where
@@ -152,7 +179,10 @@ pub record Ran (words : List (List ℕ)) (before after : Views) (answer : Status
   pub read_fault : answer ≡ status.ReadFault → HasFailed before.source after.source
   pub write_fault : answer ≡ status.WriteFault → HasFailed before.sink after.sink
   -- the counts of faults stay where nothing failed
-  pub faultless : IsFaultless answer → (after.source.faults ≡ before.source.faults) × (after.sink.faults ≡ before.sink.faults)
+  pub faultless : IsFaultless answer → CountsStay before after
   pub read_first : answer ≡ status.WriteFault → after.source.faults ≡ before.source.faults
+  -- the shelf stays as it was where nothing is replayed
+  pub idle : IsIdle answer → after.shelf ≡ before.shelf
+  pub plays_alone : command_of words ≡ Some Play → after.shelf ≡ before.shelf
   -- with right arguments and no fault a run is done, or its input is refused, or memory was refused
-  pub complete : IsSome (command_of words) → (HasFailed before.source after.source → ⊥) → (HasFailed before.sink after.sink → ⊥) → IsFaultless answer
+  pub complete : IsSome (command_of words) → NoneFailed before after → IsFaultless answer

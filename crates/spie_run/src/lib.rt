@@ -13,4 +13,4 @@ mod top;
 mod words;
 
 pub use top::{run, run_alone};
-pub use words::Command;
+pub use words::{Command, shelf_word};

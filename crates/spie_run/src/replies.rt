@@ -1,23 +1,23 @@
 // What a command makes of an input.
-ghost use Rattle.std.specs.Prelude.{◌≡◌, None, IfOk};
+ghost use Rattle.std.specs.Prelude.{◌≡◌, IfOk};
 ghost use Rattle.play_script.specs.Report.{IsReport};
 ghost use Rattle.play_script.specs.Sound.{IsSound as IsSoundScript};
+ghost use Rattle.router_account.specs.Shelves.{ShelfView};
 ghost use Rattle.trace_format.specs.Sound.{IsSound};
-ghost use Rattle.trace_history.specs.Replay.{IsReplayed, no_shelf};
+ghost use Rattle.trace_history.specs.Replay.{IsReplayed};
 ghost use Rattle.trace_history.specs.declared.Totals.{Totals};
-ghost use Rattle.trace_replay.specs.Built.{first_unbuilt_of};
-ghost use Rattle.spie_run.specs.Run.{Answers, AnswersTrace};
-ghost use Rattle.spie_run.specs.declared.words.Command.TheVariants as command;
+ghost use Rattle.trace_replay.specs.Agents.{views_of};
+ghost use Rattle.spie_run.specs.Run.{Answers};
 
-use crate::refusals::{fault_text, refusal_text};
+use crate::refusals::fault_text;
 use crate::words::Command;
 use gate_core::play;
-use page_shelf::MemShelf;
+use page_shelf::Shelf;
 use play_script::{PlayScript, play_text, read_play};
 use spie_base::{NoMemory, Status};
 use std::alloc::Global;
-use trace_format::{ReadTraceRefused, Trace, TraceRefused, read_trace};
-use trace_replay::{first_unbuilt, replay_alone};
+use trace_format::{ReadTraceRefused, Trace, read_trace};
+use trace_replay::replay_alone;
 
 /// What is written, and the status that goes with it.
 #[derive(Drop)]
@@ -26,30 +26,13 @@ pub struct Reply {
     pub text: Vec<u8>,
 }
 
-// The report of a replay. No page is archived yet, so an empty shelf that is made on the spot serves.
-fn report_of(alloc: Global, trace: &Trace) -> Result<Vec<u8>, NoMemory>
-    requires sound { IsSound trace.now }
-    requires built { first_unbuilt_of trace.now.lines ≡ None }
-    ensures { IfOk result (λ text. (totals : Totals) × IsReplayed trace.now text.items totals no_shelf) }
-{
-    let mut shelf = MemShelf::new(alloc, &[])?;
-    Ok(replay_alone(alloc, trace, &mut shelf)?.report.into_vec())
-}
-
-fn reply_to_trace(alloc: Global, trace: &Trace) -> Result<Reply, NoMemory>
+// The report of a replay.
+fn report_of<H: Shelf>(alloc: Global, trace: &Trace, shelf: &mut H) -> Result<Vec<u8>, NoMemory>
     requires { IsSound trace.now }
-    ensures { IfOk result (λ reply. AnswersTrace reply.status trace.now reply.text.items) }
+    ensures { IfOk result (λ text. (totals : Totals)
+        × IsReplayed trace.now text.items totals (views_of H.tells H.contents H.faults shelf.old shelf.new)) }
 {
-    match first_unbuilt(trace) {
-        Some(line) => Ok(Reply {
-            status: Status::TraceRefused,
-            text: refusal_text(alloc, line, b"unbuilt")?,
-        }),
-        None => Ok(Reply {
-            status: Status::Done,
-            text: report_of(alloc, trace)?,
-        }),
-    }
+    Ok(replay_alone(alloc, trace, shelf)?.report.into_vec())
 }
 
 // The text of a script's steps, done from the start.
@@ -62,16 +45,17 @@ fn played_text(alloc: Global, script: &PlayScript) -> Result<Vec<u8>, NoMemory>
 }
 
 // Lets go of the text once the trace is read.
-fn replayed(alloc: Global, text: Vec<u8>) -> Result<Reply, NoMemory>
-    ensures { IfOk result (λ reply. Answers command.Replay reply.status text.items reply.text.items) }
+fn replayed<H: Shelf>(alloc: Global, text: Vec<u8>, shelf: &mut H) -> Result<Reply, NoMemory>
+    ensures { IfOk result (λ reply. Answers Command.Replay reply.status
+        (views_of H.tells H.contents H.faults shelf.old shelf.new) text.items reply.text.items) }
 {
     let read = read_trace(alloc, &text);
     drop(text);
     match read {
-        Ok(trace) => {
-            let reply = reply_to_trace(alloc, &trace)?;
-            Ok(reply)
-        }
+        Ok(trace) => Ok(Reply {
+            status: Status::Done,
+            text: report_of(alloc, &trace, shelf)?,
+        }),
         Err(ReadTraceRefused::Refused(fault)) => Ok(Reply {
             status: Status::TraceRefused,
             text: fault_text(alloc, &fault)?,
@@ -81,7 +65,8 @@ fn replayed(alloc: Global, text: Vec<u8>) -> Result<Reply, NoMemory>
 }
 
 fn played(alloc: Global, text: Vec<u8>) -> Result<Reply, NoMemory>
-    ensures { IfOk result (λ reply. Answers command.Play reply.status text.items reply.text.items) }
+    ensures { (still : ShelfView) → IfOk result (λ reply. Answers Command.Play reply.status
+        (record { shelf_before = still; shelf_after = still }) text.items reply.text.items) }
 {
     let read = read_play(alloc, &text);
     drop(text);
@@ -99,11 +84,18 @@ fn played(alloc: Global, text: Vec<u8>) -> Result<Reply, NoMemory>
 }
 
 /// What the command makes of an input, whose bytes are let go of once they are read.
-pub fn reply_to(alloc: Global, command: Command, text: Vec<u8>) -> Result<Reply, NoMemory>
-    ensures { IfOk result (λ reply. Answers command reply.status text.items reply.text.items) }
+pub fn reply_to<H: Shelf>(
+    alloc: Global,
+    command: Command,
+    text: Vec<u8>,
+    shelf: &mut H,
+) -> Result<Reply, NoMemory>
+    ensures answers { IfOk result (λ reply. Answers command reply.status
+        (views_of H.tells H.contents H.faults shelf.old shelf.new) text.items reply.text.items) }
+    ensures untouched { command ≡ Command.Play → shelf.new ≡ shelf.old }
 {
     match command {
-        Command::Replay => replayed(alloc, text),
+        Command::Replay => replayed(alloc, text, shelf),
         Command::Play => played(alloc, text),
     }
 }

@@ -1,10 +1,12 @@
 // The top call: reads the whole input, has the whole output made, and writes it.
 ghost use Rattle.std.specs.Prelude.{◌≡◌, ◌⊎◌, map, string_bytes};
 ghost use Rattle.spie_base.specs.declared.Status.{Status};
+ghost use Rattle.trace_replay.specs.Agents.{view_of};
 ghost use Rattle.spie_run.specs.Run.{told, views, Delivered, Ran};
 
 use crate::replies::reply_to;
 use crate::words::command_of;
+use page_shelf::Shelf;
 use spie_base::{NoMemory, ReadRefused, Sink, Source, Status, WriteFailed, read_all, write_all};
 use std::alloc::Global;
 use std::sync::Wait;
@@ -25,28 +27,33 @@ fn deliver<K: Sink>(sink: &mut K, status: Status, text: &[u8]) -> Status
 }
 
 /// Reads a whole input, does what the arguments ask for, and writes the whole output. `replay 1` asks for the report
-/// of a trace, `play` for what the steps of a script answered; an unknown command and wrong arguments are `Usage`.
-/// These commands wait for nobody, so the call returns.
+/// of a trace, and so does `replay 1 FOLDER`: which shelf the archived pages are put on is the caller's choice, by
+/// `shelf_word`. `play` asks for what the steps of a script answered, and uses no shelf. An unknown command and wrong
+/// arguments are `Usage`. These commands wait for nobody, so the call returns.
 ///
 /// Nothing is written before the input was read, to its end or one byte past its limit of 64 MiB, and the
 /// output made whole. Takes the input, what is kept of it, and the output.
-pub fn run_alone<S: Source, K: Sink>(
+pub fn run_alone<S: Source, K: Sink, H: Shelf>(
     alloc: Global,
     words: &[String],
     source: &mut S,
     sink: &mut K,
+    shelf: &mut H,
 ) -> Status
     ensures ran { Ran (map string_bytes words.now)
-        (views S.left S.faults K.written K.faults source.old sink.old)
-        (views S.left S.faults K.written K.faults source.new sink.new) result }
-    ensures untouched { result ≡ Status.Usage → (source.new ≡ source.old) × (sink.new ≡ sink.old) }
+        (views (told S.left S.faults source.old) (told K.written K.faults sink.old)
+        (view_of H.tells H.contents H.faults shelf.old))
+        (views (told S.left S.faults source.new) (told K.written K.faults sink.new)
+        (view_of H.tells H.contents H.faults shelf.new)) result }
+    ensures untouched { result ≡ Status.Usage
+        → (source.new ≡ source.old) × (sink.new ≡ sink.old) × (shelf.new ≡ shelf.old) }
     ensures unwritten { (result ≡ Status.ReadFault ⊎ result ≡ Status.NoMemory) → sink.new ≡ sink.old }
 {
     let Some(command) = command_of(words) else {
         return Status::Usage;
     };
     match read_all(alloc, source, MOST_BYTES) {
-        Ok(text) => match reply_to(alloc, command, text) {
+        Ok(text) => match reply_to(alloc, command, text, shelf) {
             Ok(reply) => deliver(sink, reply.status, &reply.text),
             Err(NoMemory) => Status::NoMemory,
         },
@@ -58,18 +65,22 @@ pub fn run_alone<S: Source, K: Sink>(
 
 /// The run of the program; `rt` and `alloc` are those of the program. For commands that wait for nobody, as all do
 /// yet, it is `run_alone`.
-pub fn run<R: Threads + Wait + Sync, S: Source, K: Sink>(
+pub fn run<R: Threads + Wait + Sync, S: Source, K: Sink, H: Shelf + Send>(
     rt: &R,
     alloc: Global,
     words: &[String],
     source: &mut S,
     sink: &mut K,
+    shelf: &mut H,
 ) -> Status
     ensures ran { Ran (map string_bytes words.now)
-        (views S.left S.faults K.written K.faults source.old sink.old)
-        (views S.left S.faults K.written K.faults source.new sink.new) result }
-    ensures untouched { result ≡ Status.Usage → (source.new ≡ source.old) × (sink.new ≡ sink.old) }
+        (views (told S.left S.faults source.old) (told K.written K.faults sink.old)
+        (view_of H.tells H.contents H.faults shelf.old))
+        (views (told S.left S.faults source.new) (told K.written K.faults sink.new)
+        (view_of H.tells H.contents H.faults shelf.new)) result }
+    ensures untouched { result ≡ Status.Usage
+        → (source.new ≡ source.old) × (sink.new ≡ sink.old) × (shelf.new ≡ shelf.old) }
     ensures unwritten { (result ≡ Status.ReadFault ⊎ result ≡ Status.NoMemory) → sink.new ≡ sink.old }
 {
-    run_alone(alloc, words, source, sink)
+    run_alone(alloc, words, source, sink, shelf)
 }
