@@ -1,17 +1,16 @@
 #!/bin/sh
-# Runs the built program on each example, and on inputs that it refuses: compares standard output, the status, and
-# what standard error says. Of a trace with a line that docs/FORMATS.md lists as not replayed yet, the first such line
-# has to be refused as `unbuilt`.
+# Runs the built program on each example, with a shelf in memory and with one in a folder, and on inputs that it
+# refuses: compares standard output, the status, and what standard error says.
 #
 #     examples/check.sh [PROGRAM]      PROGRAM is crates/spie/out/spie by default
 here=$(dirname "$0")
 spie=${1:-$here/../crates/spie/out/spie}
-out=$(mktemp) err=$(mktemp)
+out=$(mktemp) err=$(mktemp) folder=$(mktemp -d)
 failed=0
 
-check() { # NAME STATUS, and then what was got
+check() { # NAME WANTED GOT
     if [ "$2" != "$3" ]; then
-        echo "$1: status $3 in place of $2"
+        echo "$1: $3 in place of $2"
         failed=1
     fi
 }
@@ -23,28 +22,33 @@ says() { # NAME TEXT
     fi
 }
 
-# The words of lines that can't be replayed yet.
-unbuilt=$(sed -n '/^## Not replayed yet/,/^## Refusals/s/^- `\(.*\)`$/\1/p' "$here/../docs/FORMATS.md")
-
-first_unbuilt() { # TRACE
-    for word in $unbuilt; do
-        grep -n "^$word " "$1"
-    done | sort -n | head -n 1 | cut -d : -f 1
+replays() { # TRACE REPORT, and then the words behind `replay 1`
+    trace=$1 report=$2
+    shift 2
+    "$spie" replay 1 "$@" < "$trace" > "$out" 2> "$err"
+    check "$trace" 0 $?
+    cmp -s "$out" "$report" || { echo "$trace: another report"; failed=1; }
+    [ -s "$err" ] && { echo "$trace: standard error is not empty"; failed=1; }
 }
 
 for trace in "$here"/*.trace; do
-    line=$(first_unbuilt "$trace")
-    "$spie" replay 1 < "$trace" > "$out" 2> "$err"
-    status=$?
-    if [ -n "$line" ]; then
-        check "$trace" 3 $status
-        [ "$(cat "$out")" = "refused $line unbuilt" ] || { echo "$trace: another refusal"; failed=1; }
-        continue
-    fi
-    check "$trace" 0 $status
-    cmp -s "$out" "${trace%.trace}.report" || { echo "$trace: another report"; failed=1; }
-    [ -s "$err" ] && { echo "$trace: standard error is not empty"; failed=1; }
+    replays "$trace" "${trace%.trace}.report"
+    rm -f "$folder"/*
+    replays "$trace" "${trace%.trace}.report" "$folder"
 done
+
+# Where the folder is not there, each put fails, and the page stays in memory.
+kept=$(mktemp)
+sed 's/put 0 kept -/put - kept 0/' "$here/archive_and_read_back.report" > "$kept"
+replays "$here/archive_and_read_back.trace" "$kept" "$folder/not-there"
+
+# What was put stands in files, and goes when the page expires.
+rm -f "$folder"/*
+"$spie" replay 1 "$folder" < "$here/archive_and_read_back.trace" > "$out" 2> "$err"
+check "files of a page" "00000000-00000000.bits 00000000-00000000.rows" "$(cd "$folder" && echo *)"
+rm -f "$folder"/*
+"$spie" replay 1 "$folder" < "$here/expiry_on_the_shelf.trace" > "$out" 2> "$err"
+check "files of an expired page" "*" "$(cd "$folder" && echo *)"
 
 for script in "$here"/*.script; do
     "$spie" play < "$script" > "$out" 2> "$err"
@@ -71,6 +75,6 @@ if [ -e /dev/full ]; then
     says "a full disk" "spie: the output can't be written"
 fi
 
-rm -f "$out" "$err"
+rm -rf "$out" "$err" "$folder" "$kept"
 [ $failed = 0 ] && echo "all as expected"
 exit $failed
