@@ -22,8 +22,8 @@ def packet(number):
     return "4500001c%04x0000401100000a%06x0a000002%016x" % (number % 65536, number, number)
 
 
-def front(out, routers=ROUTERS):
-    out.write("spie-trace 1\nshape 3 16 60000 100 8 5000 100 0123456789abcdef\n")
+def front(out, routers=ROUTERS, shape="3 16 60000 100 8 5000 100"):
+    out.write("spie-trace 1\nshape %s 0123456789abcdef\n" % shape)
     for router in range(routers):
         out.write("router r%d east\n" % router)
     for router in range(routers - 1):
@@ -74,6 +74,17 @@ def rotations(out, count):
     out.write("query r0 0 0\nend\n")
 
 
+def archives(out, count):
+    """Rotations, each with an archival, over all routers in turn, a tick for each round, and a query of the last pages."""
+    front(out, ROUTERS, "3 16 60000 5000 32 100000 10")
+    out.write("packet %s\n" % packet(0))
+    for round_ in range(count // ROUTERS):
+        for router in range(ROUTERS):
+            out.write("fwd r%d 0\nrotate r%d\narchive r%d\n" % (router, router, router))
+        out.write("tick %d\n" % (round_ + 1))
+    out.write("query r0 0 %d\nend\n" % (count // ROUTERS))
+
+
 def changes(out, records, word="xf"):
     """Transforms of 30,000 packets into as many others at four routers, or the same as records, and 256 queries."""
     front(out, 4)
@@ -115,13 +126,14 @@ def timed(command, source):
     return seconds, usage.ru_maxrss * 1024
 
 
-def measure(name, program, source):
+def measure(name, program, source, shelf=()):
+    command = [program, "replay", "1", *shelf]
     size = os.path.getsize(source)
     with open(source, "rb") as text:
         lines = sum(1 for _ in text)
     with open(source, "rb") as stdin:
-        report = len(subprocess.run([program, "replay", "1"], stdin=stdin, capture_output=True).stdout)
-    runs = [timed([program, "replay", "1"], source) for _ in range(RUNS)]
+        report = len(subprocess.run(command, stdin=stdin, capture_output=True).stdout)
+    runs = [timed(command, source) for _ in range(RUNS)]
     hashes = [timed(["sha256sum"], source) for _ in range(RUNS)]
     own, other = min(run[0] for run in runs), min(run[0] for run in hashes)
     peak = max(run[1] for run in runs)
@@ -142,6 +154,12 @@ def main():
             with open(source, "w") as out:
                 make(out, count)
             measure(name, program, source)
+        source, pages = os.path.join(folder, "trace"), os.path.join(folder, "pages")
+        os.mkdir(pages)
+        with open(source, "w") as out:
+            archives(out, 4096)
+        measure("archives 4096", program, source)
+        measure("in a folder", program, source, [pages])
 
 
 if __name__ == "__main__":
