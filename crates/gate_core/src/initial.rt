@@ -65,7 +65,8 @@ fn seats(alloc: Global, passes: u32) -> Result<Vec<Seat>, NoMemory>
 fn bare_desk(alloc: Global, shape: &PageShape) -> Result<Desk, NoMemory>
     requires { IsShape shape.now }
     ensures duties { IfOk result (λ desk. duties_of desk 0 ≡ (keeper_view 0).duties) }
-    ensures families { IfOk result (λ desk. (s : ℕ) → s < SLOTS → slice_get desk.families s ≡ Some (family_of shape.now 0)) }
+    ensures families { IfOk result (λ desk. (s : ℕ) → s < SLOTS
+        → slice_get desk.families s ≡ Some (family_of shape.now 0)) }
     ensures lists { IfOk result (λ desk. HasLists (width shape.now) desk) }
 {
     let mut collected = Vec::new(alloc);
@@ -92,7 +93,8 @@ fn bare_desk(alloc: Global, shape: &PageShape) -> Result<Desk, NoMemory>
 fn desk(alloc: Global, shape: &PageShape) -> Result<Desk, NoMemory>
     requires { IsShape shape.now }
     ensures duties { IfOk result (λ desk. duties_of desk 0 ≡ (keeper_view 0).duties) }
-    ensures families { IfOk result (λ desk. (s : ℕ) → s < SLOTS → slice_get desk.families s ≡ Some (family_of shape.now 0)) }
+    ensures families { IfOk result (λ desk. (s : ℕ) → s < SLOTS
+        → slice_get desk.families s ≡ Some (family_of shape.now 0)) }
     ensures room { IfOk result (λ desk. HasDeskRoom (width shape.now) desk 0) }
 {
     let mut desk = bare_desk(alloc, shape)?;

@@ -61,7 +61,8 @@ impl Catalogue {
     /// Page 0, open since 0. Takes no memory yet.
     pub fn start(alloc: Global, rules: &Rules) -> Result<Catalogue, NoMemory>
         ensures some { is_ok result ≡ true }
-        ensures begins { IfOk result (λ c. c ≡ record { rules = rules.now; closings = []; places = []; gone = 0; clock = 0; room = c.room }) }
+        ensures begins { IfOk result (λ c. c
+            ≡ record { rules = rules.now; closings = []; places = []; gone = 0; clock = 0; room = c.room }) }
     {
         Ok(Catalogue {
             rules: *rules,
@@ -90,7 +91,12 @@ impl Catalogue {
         requires fits { length self.old.closings + 1 < 2 ^ 32 - 1 }
         requires later { self.old.clock ≤ clock }
         ensures page { result.number ≡ length self.old.closings + 1 }
-        ensures turned { self.new ≡ record self.old { closings = self.old.closings ++ clock ∷ []; places = self.old.places ++ Sealed ∷ []; clock = clock; room = self.new.room } }
+        ensures turned { self.new ≡ record self.old {
+          closings = self.old.closings ++ clock ∷ [];
+          places = self.old.places ++ Sealed ∷ [];
+          clock = clock;
+          room = self.new.room;
+        } }
         ensures room { self.old.room ≤ self.new.room + 1 }
     {
         let (Ok(()), Ok(())) = (self.closings.push(clock), self.places.push(Place::Sealed)) else {
@@ -145,7 +151,8 @@ impl Catalogue {
     pub fn window(&self, time: u64) -> PageRange
         ensures some { result.first.number ≤ result.last.number }
         ensures exists { result.last.number ≤ length self.now.closings }
-        ensures exact { (p : ℕ) → (result.first.number ≤ p) × (p ≤ result.last.number) ↔ IsTrue (is_in_window self.now.rules self.now.closings time p) }
+        ensures exact { (p : ℕ) → (result.first.number ≤ p) × (p ≤ result.last.number)
+            ↔ IsTrue (is_in_window self.now.rules self.now.closings time p) }
     {
         let from = time.saturating_sub(self.rules.width);
         let first = count_before(&self.closings, from);
@@ -175,7 +182,8 @@ impl Catalogue {
         ensures exact { AreExpired self.old.rules self.old.closings clock self.new.gone }
         ensures within { self.new.gone ≤ length self.old.closings }
         ensures never_back { self.old.gone ≤ self.new.gone }
-        ensures now { MatchOption result (self.new.gone ≡ self.old.gone) (λ r. (r.first.number ≡ self.old.gone) × (r.last.number + 1 ≡ self.new.gone) × (self.old.gone < self.new.gone)) }
+        ensures now { MatchOption result (self.new.gone ≡ self.old.gone) (λ r. (r.first.number ≡ self.old.gone)
+            × (r.last.number + 1 ≡ self.new.gone) × (self.old.gone < self.new.gone)) }
     {
         let first = self.gone;
         let gone = self.gone_by(clock);

@@ -66,7 +66,8 @@ impl CoreData {
         requires word { gate_place slot < length self.old.words.items }
         requires visits { HasLogRoom self.old.visits self.old.room }
         requires room { 1 ≤ self.old.room }
-        ensures seat { Writes self.old self.new (gate_place slot) ((gate + 1) % 2 ^ 64) place (seat_in self.old place (PassState.Visiting slot gate)) }
+        ensures seat { Writes self.old self.new (gate_place slot) ((gate + 1) % 2 ^ 64) place
+            (seat_in self.old place (PassState.Visiting slot gate)) }
         ensures entries { self.new.entries ≡ self.old.entries }
         ensures visits { Grows self.old.visits self.new.visits place (record { slot = slot; gate = gate } ∷ []) }
     {

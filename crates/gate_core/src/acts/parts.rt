@@ -91,7 +91,8 @@ impl CoreData {
     pub(crate) fn turn(&mut self, place: usize, state: PassState)
         requires seat { place < length self.old.seats.items }
         requires room { 1 ≤ self.old.room }
-        ensures seat { Writes self.old self.new 0 (slice_index self.old.words.items 0) place (seat_in self.old place state) }
+        ensures seat { Writes self.old self.new 0 (slice_index self.old.words.items 0) place
+            (seat_in self.old place state) }
         ensures entries { self.new.entries ≡ self.old.entries }
         ensures visits { self.new.visits ≡ self.old.visits }
     {
