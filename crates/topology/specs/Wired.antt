@@ -14,7 +14,7 @@ layout_of t = record {
   names = t.names.items;
   region_names = t.region_names.items;
   regions = t.regions.items;
-  links = t.links.items;
+  links = t.order.links;
 }
 
 -- the ascending list of the routers linked with a router
@@ -22,9 +22,11 @@ pub record IsNear (links : List (ℕ × ℕ)) (a : ℕ) (near : List RouterId) :
   pub ordered : IsStrictlySortedBy router_cmp near
   pub same : (q : RouterId) → Contains near q ↔ IsTrue (is_linked links a q.number)
 
--- the lists are sound, the index has each name, and each router has the list of the routers linked with it
+-- the lists are sound, the links are counted, the index has each name, and each router has the list of the routers
+-- linked with it
 pub record IsWired (t : Inside) : Type 0 where
   pub sound : IsSound (layout_of t)
+  pub counted : t.link_count ≡ length t.order.links
   pub index : (name : List ℕ) → get_by (λ k. bytes_eq name k.items) t.index ≡ router_named t.names.items name
   pub nears : length t.near.items ≡ length t.names.items
-  pub near : (a : ℕ) (d : List RouterId) → a < length t.names.items → IsNear t.links.items a (slice_index_or t.near.items a d)
+  pub near : (a : ℕ) (d : List RouterId) → a < length t.names.items → IsNear t.order.links a (slice_index_or t.near.items a d)

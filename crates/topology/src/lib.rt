@@ -8,6 +8,7 @@
 
 mod laws;
 mod limits;
+mod link_order;
 mod names;
 mod near;
 mod network;

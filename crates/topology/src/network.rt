@@ -7,6 +7,7 @@ ghost use Rattle.topology.specs.Layout.{empty, router_named, is_linked, with_rou
 ghost use Rattle.topology.specs.Refusals as refusals;
 ghost use Rattle.topology.specs.Refusals.{fault_of};
 
+use crate::link_order::LinkOrder;
 use crate::{LINKS_MOST, REGIONS_MOST, ROUTERS_MOST, TopologyRefused, names, near};
 use spie_base::{List, NoMemory, RouterId};
 use std::alloc::Global;
@@ -20,7 +21,9 @@ pub struct Topology {
     names: Vec<List<u8>>,
     region_names: Vec<List<u8>>,
     regions: Vec<u32>,
-    links: Vec<(u32, u32)>,
+    link_count: usize,
+    // the links as they were declared, for proofs alone
+    order: LinkOrder,
     // each router by its name
     index: HashMap<Vec<u8>, RouterId>,
     // by `names::hint_of`, the last router that was added with a name of that hint; a guess, that is tested
@@ -51,7 +54,8 @@ impl Topology {
             names: Vec::new(alloc),
             region_names: Vec::new(alloc),
             regions: Vec::new(alloc),
-            links: Vec::new(alloc),
+            link_count: 0,
+            order: LinkOrder::new(),
             index: HashMap::new(alloc),
             guesses: [0; 256],
             near: Vec::new(alloc),
@@ -230,7 +234,7 @@ impl Topology {
             Some(TopologyRefused::SelfLink)
         } else if self.linked(a).contains(&b) {
             Some(TopologyRefused::DoubleLink)
-        } else if self.links.len() >= LINKS_MOST {
+        } else if self.link_count >= LINKS_MOST {
             Some(TopologyRefused::TooMany)
         } else {
             None
@@ -247,9 +251,11 @@ impl Topology {
         let (first, second) = (a.number as usize, b.number as usize);
         let near_first = near::with_one(alloc, self.near[first].items(), b)?;
         let near_second = near::with_one(alloc, self.near[second].items(), a)?;
-        self.links.push((a.number, b.number))?;
+        let order = self.order.with(&a, &b);
         self.near[first] = near_first;
         self.near[second] = near_second;
+        self.link_count += 1;
+        self.order = order;
         Ok(())
     }
 }
