@@ -18,6 +18,7 @@ use Rattle.router_account.specs.declared.words.Cause.TheVariants.{Failed, Other,
 use Rattle.router_account.specs.Account.{Account, bits, rows_in}
 use Rattle.router_account.specs.Records.{IsCause, AreTold, bits_of, rows_of, name_of, true_text}
 use Rattle.router_account.specs.Shelves.{ShelfView}
+use Rattle.router_account.specs.Sights.{is_failed}
 use Rattle.shelved_page.specs.declared.reading.Fetched.{Fetched}
 use Rattle.shelved_page.specs.declared.reading.Fetched.TheVariants.{Found, Lost}
 use Rattle.shelved_page.specs.declared.reading.BitsBack.{BitsBack}
@@ -123,3 +124,21 @@ pub record IsTrue (rules : Rules) (a : Account) (page : ℕ) (c : Content) : Typ
 abbrev pub IsBack : Rules → Account → (page : ℕ) → (before after : ShelfView) → Back → Type 0
 IsBack rules a page before after (Got c) = IsGot rules a page c × (AreTold rules a page before → IsTrue rules a page c)
 IsBack rules a page before after (Bad cause) = IsCause rules a page before after cause
+
+-- ---- whether a fault of the shelf kept it from being read
+
+abbrev pub failed_get : Fetched → Bool
+failed_get (Found v) = false
+failed_get (Lost cause) = is_failed cause
+
+abbrev pub failed_bits : BitsBack → Bool
+failed_bits (GotBits got) = false
+failed_bits (LostBits cause) = is_failed cause
+
+abbrev pub failed_rows : RowsBack → Bool
+failed_rows (GotRows got) = false
+failed_rows (LostRows cause) = is_failed cause
+
+abbrev pub failed_back : Back → Bool
+failed_back (Got c) = false
+failed_back (Bad cause) = is_failed cause

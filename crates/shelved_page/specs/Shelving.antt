@@ -2,15 +2,12 @@
 use Rattle.std.specs.Prelude.{ℕ, ◌≡◌, ◌≤◌, Bool, true, false, List, Option, None, Some, if◌then◌else◌}
 use Rattle.sha2.specs.Sha256.{sha256}
 use Rattle.spie_base.specs.Causes.{Rose, RoseBy}
-use Rattle.page_shelf.specs.Shelves.{Contents, IsSame, IsSet}
+use Rattle.page_shelf.specs.Shelves.{IsSame, IsSet}
 use Rattle.page_shelf.specs.declared.ShelfName.{ShelfName}
 use Rattle.page_shelf.specs.declared.ShelfPart.{ShelfPart}
 use Rattle.router_account.specs.Records.{name_of}
 use Rattle.router_account.specs.Shelves.{ShelfView}
-
--- a shelf as it is seen at one time
-abbrev pub view_of : {H : Type 0} → (H → Bool) → (H → Contents) → (H → ℕ) → H → ShelfView
-view_of tells contents faults shelf = record { tells = tells shelf; contents = contents shelf; faults = faults shelf }
+pub use Rattle.router_account.specs.Shelves.{view_of}
 
 -- a record was put, and this is its digest; or the put failed
 abbrev pub IsPut : ShelfName → (text : List ℕ) → (before after : ShelfView) → Option (List ℕ) → Type 0

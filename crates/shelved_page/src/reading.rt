@@ -7,10 +7,9 @@ ghost use Rattle.archive_record.specs.Spelling.{AreBits, Fits, IsPlain, spelled}
 ghost use Rattle.page_shelf.specs.declared.ShelfPart.TheVariants.{Bits, Rows};
 ghost use Rattle.router_account.specs.Account.{Account};
 ghost use Rattle.router_account.specs.Records.{name_of, head_of, true_text};
-ghost use Rattle.router_account.specs.Shelves.{ShelfView};
-ghost use Rattle.shelved_page.specs.Shelving.{view_of};
+ghost use Rattle.router_account.specs.Shelves.{ShelfView, view_of};
 ghost use Rattle.shelved_page.specs.declared.reading.Fetched.TheVariants.{Found};
-ghost use Rattle.shelved_page.specs.Reading.{Gets, IsFetched, IsJudged, IsHead, IsBitsBack, IsRowsBack, IsBack, IsTrueBits, IsTrueRows, true_bits, true_rows, as_bits, as_rows};
+ghost use Rattle.shelved_page.specs.Reading.{Gets, IsFetched, IsJudged, IsHead, IsBitsBack, IsRowsBack, IsBack, IsTrueBits, IsTrueRows, true_bits, true_rows, as_bits, as_rows, failed_get, failed_bits, failed_rows, failed_back};
 
 use crate::shelving::Digests;
 use archive_record::{BitsHead, BitsRecord, DecodeRefused, Record, RowsRecord, decode};
@@ -64,7 +63,8 @@ pub enum Back {
 
 // Compares what was got with the digest that was kept, and reads it.
 fn judge(alloc: Global, bytes: &[u8], digest: &[u8; 32]) -> Result<Fetched, NoMemory>
-    ensures { IfOk result (λ got. (value : TheRecord) → Fits value → IsPlain value → digest.now ≡ sha256 (spelled value) → IsJudged value bytes.now got) }
+    ensures { IfOk result (λ got. (value : TheRecord) → Fits value → IsPlain value
+        → digest.now ≡ sha256 (spelled value) → IsJudged value bytes.now got) }
 {
     let found = Sha256::digest(bytes);
     if found != *digest {
@@ -93,8 +93,10 @@ fn fetch<H: Shelf>(
         Gets before after }
     ensures got { let before = view_of H.tells H.contents H.faults shelf.old in
         let after = view_of H.tells H.contents H.faults shelf.new in
-        IfOk result (λ got. (value : TheRecord) → Fits value → IsPlain value → digest.now ≡ sha256 (spelled value) → length (spelled value) ≤ most
+        IfOk result (λ got. (value : TheRecord) → Fits value → IsPlain value
+        → digest.now ≡ sha256 (spelled value) → length (spelled value) ≤ most
         → IsFetched name.now value before after got) }
+    ensures kept { IfOk result (λ got. failed_get got ≡ false → H.faults shelf.new ≡ H.faults shelf.old) }
 {
     let bytes = match shelf.get(alloc, name, most) {
         Ok(Some(bytes)) => bytes,
@@ -107,7 +109,8 @@ fn fetch<H: Shelf>(
 
 // Whether a bits record is of this page.
 fn is_of(head: &BitsHead, n: u8, r: &BitsRecord) -> bool
-    ensures { (rules : TheRules) (a : Account) (page : ℕ) → head.now ≡ head_of rules a page → n ≡ rules.n → IsHead rules a page r.now result }
+    ensures { (rules : TheRules) (a : Account) (page : ℕ)
+        → head.now ≡ head_of rules a page → n ≡ rules.n → IsHead rules a page r.now result }
 {
     if r.router.number != head.router.number {
         return false;
@@ -132,8 +135,11 @@ fn is_of(head: &BitsHead, n: u8, r: &BitsRecord) -> bool
 
 // A bits record that was got, by its head.
 fn by_head(head: &BitsHead, n: u8, r: BitsRecord) -> BitsBack
-    ensures { (rules : TheRules) (a : Account) (page : ℕ) (before after : ShelfView) → head.now ≡ head_of rules a page → n ≡ rules.n
-        → IsFetched (name_of a.router page Bits) (as_bits (true_bits rules a page)) before after (Found (as_bits r)) → IsBitsBack rules a page before after result }
+    ensures got { (rules : TheRules) (a : Account) (page : ℕ) (before after : ShelfView)
+        → head.now ≡ head_of rules a page → n ≡ rules.n
+        → IsFetched (name_of a.router page Bits) (as_bits (true_bits rules a page)) before after (Found (as_bits r))
+        → IsBitsBack rules a page before after result }
+    ensures kept { failed_bits result ≡ false }
 {
     if is_of(head, n, &r) {
         BitsBack::GotBits(r.bits)
@@ -144,8 +150,11 @@ fn by_head(head: &BitsHead, n: u8, r: BitsRecord) -> BitsBack
 
 // What was got in place of a page's bits record.
 fn bits_back(head: &BitsHead, n: u8, got: Fetched) -> BitsBack
-    ensures { (rules : TheRules) (a : Account) (page : ℕ) (before after : ShelfView) → head.now ≡ head_of rules a page → n ≡ rules.n
-        → IsFetched (name_of a.router page Bits) (as_bits (true_bits rules a page)) before after got → IsBitsBack rules a page before after result }
+    ensures got { (rules : TheRules) (a : Account) (page : ℕ) (before after : ShelfView)
+        → head.now ≡ head_of rules a page → n ≡ rules.n
+        → IsFetched (name_of a.router page Bits) (as_bits (true_bits rules a page)) before after got
+        → IsBitsBack rules a page before after result }
+    ensures kept { failed_bits result ≡ failed_get got }
 {
     match got {
         Fetched::Found(Record::Bits(r)) => by_head(head, n, r),
@@ -156,8 +165,11 @@ fn bits_back(head: &BitsHead, n: u8, got: Fetched) -> BitsBack
 
 // A rows record that was got, by its head.
 fn by_rows_head(router: RouterId, page: PageNo, r: RowsRecord) -> RowsBack
-    ensures { (a : Account) (before after : ShelfView) → router.number ≡ a.router
-        → IsFetched (name_of a.router page.number Rows) (as_rows (true_rows a page.number)) before after (Found (as_rows r)) → IsRowsBack a page.number before after result }
+    ensures got { (a : Account) (before after : ShelfView) → router.number ≡ a.router
+        → IsFetched (name_of a.router page.number Rows) (as_rows (true_rows a page.number))
+        before after (Found (as_rows r))
+        → IsRowsBack a page.number before after result }
+    ensures kept { failed_rows result ≡ false }
 {
     if r.router.number != router.number {
         return RowsBack::LostRows(Cause::Broken);
@@ -170,8 +182,10 @@ fn by_rows_head(router: RouterId, page: PageNo, r: RowsRecord) -> RowsBack
 
 // What was got in place of a page's rows record.
 fn rows_back(router: RouterId, page: PageNo, got: Fetched) -> RowsBack
-    ensures { (a : Account) (before after : ShelfView) → router.number ≡ a.router
-        → IsFetched (name_of a.router page.number Rows) (as_rows (true_rows a page.number)) before after got → IsRowsBack a page.number before after result }
+    ensures got { (a : Account) (before after : ShelfView) → router.number ≡ a.router
+        → IsFetched (name_of a.router page.number Rows) (as_rows (true_rows a page.number)) before after got
+        → IsRowsBack a page.number before after result }
+    ensures kept { failed_rows result ≡ failed_get got }
 {
     match got {
         Fetched::Found(Record::Rows(r)) => by_rows_head(router, page, r),
@@ -196,6 +210,7 @@ fn fetch_bits<H: Shelf>(
         IfOk result (λ got. (rules : TheRules) (a : Account) (page : ℕ)
         → head.now ≡ head_of rules a page → n ≡ rules.n → IsTrueBits rules a page
         → digest.now ≡ sha256 (true_text rules a page Bits) → IsBitsBack rules a page before after got) }
+    ensures kept { IfOk result (λ got. failed_bits got ≡ false → H.faults shelf.new ≡ H.faults shelf.old) }
 {
     let name = ShelfName {
         router: head.router,
@@ -219,8 +234,10 @@ fn fetch_rows<H: Shelf>(
         Gets before after }
     ensures got { let before = view_of H.tells H.contents H.faults shelf.old in
         let after = view_of H.tells H.contents H.faults shelf.new in
-        IfOk result (λ got. (rules : TheRules) (a : Account) → router.number ≡ a.router → IsTrueRows a page.number
+        IfOk result (λ got. (rules : TheRules) (a : Account)
+        → router.number ≡ a.router → IsTrueRows a page.number
         → digest.now ≡ sha256 (true_text rules a page.number Rows) → IsRowsBack a page.number before after got) }
+    ensures kept { IfOk result (λ got. failed_rows got ≡ false → H.faults shelf.new ≡ H.faults shelf.old) }
 {
     let name = ShelfName {
         router,
@@ -248,6 +265,7 @@ pub fn read_back<H: Shelf>(
         → head.now ≡ head_of rules a page → n ≡ rules.n → IsTrueBits rules a page → IsTrueRows a page
         → digests.now.bits ≡ sha256 (true_text rules a page Bits)
         → digests.now.rows ≡ sha256 (true_text rules a page Rows) → IsBack rules a page before after got) }
+    ensures kept { IfOk result (λ got. failed_back got ≡ false → H.faults shelf.new ≡ H.faults shelf.old) }
 {
     let bits = match fetch_bits(alloc, shelf, head, n, &digests.bits)? {
         BitsBack::GotBits(bits) => bits,

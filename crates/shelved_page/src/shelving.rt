@@ -3,8 +3,8 @@ ghost use Rattle.std.specs.Prelude.{◌≡◌, ◌≤◌, not, IfOk};
 ghost use Rattle.archive_record.specs.Spelling.{AreBits, AreRows, bits_record, rows_record, spelled_bits, spelled_rows};
 ghost use Rattle.page_shelf.specs.declared.ShelfPart.TheVariants.{Bits, Rows};
 ghost use Rattle.router_account.specs.Records.{name_of};
-ghost use Rattle.router_account.specs.Shelves.{ShelfView};
-ghost use Rattle.shelved_page.specs.Shelving.{view_of, IsPut, IsDiscard, Clears};
+ghost use Rattle.router_account.specs.Shelves.{ShelfView, view_of};
+ghost use Rattle.shelved_page.specs.Shelving.{IsPut, IsDiscard, Clears};
 
 use archive_record::{BitsHead, encode_bits, encode_rows};
 use bloom_page::Page;
@@ -53,7 +53,8 @@ pub fn put_bits<H: Shelf>(
     ensures still { H.tells shelf.new ≡ H.tells shelf.old }
     ensures put { let before = view_of H.tells H.contents H.faults shelf.old in
         let after = view_of H.tells H.contents H.faults shelf.new in
-        IfOk result (λ digest. IsPut (name_of head.now.router.number head.now.page.number Bits) (spelled_bits (bits_record head.now bits.now)) before after digest) }
+        IfOk result (λ digest. IsPut (name_of head.now.router.number head.now.page.number Bits)
+        (spelled_bits (bits_record head.now bits.now)) before after digest) }
 {
     let name = ShelfName {
         router: head.router,
@@ -77,7 +78,8 @@ pub fn put_rows<H: Shelf>(
     ensures still { H.tells shelf.new ≡ H.tells shelf.old }
     ensures put { let before = view_of H.tells H.contents H.faults shelf.old in
         let after = view_of H.tells H.contents H.faults shelf.new in
-        IfOk result (λ digest. IsPut (name_of router.number page.number Rows) (spelled_rows (rows_record router page rows.now)) before after digest) }
+        IfOk result (λ digest. IsPut (name_of router.number page.number Rows)
+        (spelled_rows (rows_record router page rows.now)) before after digest) }
 {
     let name = ShelfName {
         router,
@@ -103,8 +105,8 @@ fn discard_one<H: Shelf>(alloc: Global, shelf: &mut H, name: &ShelfName) -> Resu
     }
 }
 
-/// Leaves nothing under both names of a page, of the bits first. Says whether neither call failed; the second is made in any
-/// case.
+/// Leaves nothing under both names of a page, of the bits first. Says whether neither call failed; the second is made
+/// in any case.
 pub fn discard_both<H: Shelf>(
     alloc: Global,
     shelf: &mut H,

@@ -13,5 +13,5 @@ returns-clause-got g c = λ rules a page head n fits d.
     let z : ShelfView = record { tells = g.H.Shelf.tells c.fetch.new.shelf; contents = g.H.Shelf.contents c.fetch.new.shelf; faults = g.H.Shelf.faults c.fetch.new.shelf } in
     let value = as_bits (true_bits rules a page) in
     let got = c.in_ok-got.ensures.got value fits.fits fits.plain d (short_bits (true_bits rules a page) fits.fits.high) in
-    c.bits_back.ensures rules a page x z head n
+    c.bits_back.ensures.got rules a page x z head n
     (subst (λ (m : ShelfName). IsFetched m value x z c.in_ok-got.got) (ap (λ (h : BitsHead). let m : ShelfName = record { router = h.router; page = h.page; part = Bits } in m) head) got)

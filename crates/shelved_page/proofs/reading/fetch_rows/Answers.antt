@@ -13,5 +13,5 @@ returns-clause-got g c = λ rules a router fits d.
     let page = c.args.page.number in
     let value = as_rows (true_rows a page) in
     let got = c.in_ok-got.ensures.got value fits.fits fits.plain d (short_rows (true_rows a page) fits.plain fits.fits.count) in
-    c.rows_back.ensures a x z router
+    c.rows_back.ensures.got a x z router
     (subst (λ (m : ShelfName). IsFetched m value x z c.in_ok-got.got) (ap (λ r. let m : ShelfName = record { router = record { number = r }; page = record { number = page }; part = Rows } in m) router) got)
