@@ -1,10 +1,11 @@
 -- What a try to record tells.
-use Rattle.std.specs.Prelude.{◌≡◌, ℕ, [], ◌∷◌, ◌++◌}
+use Rattle.std.specs.Prelude.{◌≡◌, ℕ, List, [], ◌∷◌, ◌++◌, All}
 use Rattle.atomic_table.specs.declared.shared.Seat.{Seat}
 use Rattle.spie_base.specs.declared.Sig.{Sig}
 use Rattle.spie_base.specs.declared.PageNo.{PageNo}
 use Rattle.gate_core.specs.declared.states.PassState.TheVariants.{Idle}
 use Rattle.gate_core.specs.declared.view.View.{View}
+use Rattle.gate_core.specs.declared.view.Visit.{Visit}
 use Rattle.spie_base.specs.declared.PageShape.{PageShape}
 use Rattle.gate_core.specs.Invariant.{VisitFits}
 use Rattle.gate_core.specs.Moves.{Plane, MeetsInvariant}
@@ -49,3 +50,21 @@ RecordedIn page sig before after = StaysWith before after (with_entry before.me.
 abbrev pub PassTells : PageShape → Sig → PassHeld → PassHeld → Tried → Type 0
 PassTells shape sig before after (Entered page) = after ≡ record before { entries = before.entries ++ record { page = page; sig = sig } ∷ [] }
 PassTells shape sig before after (Sealed gate) = (slot : ℕ) × (after ≡ record before { visits = before.visits ++ record { slot = slot; gate = gate } ∷ [] }) × SealedThen shape before.floor slot gate
+
+-- ---- a record that may wait
+
+-- each of these was read from a gate that was sealed then
+abbrev pub WereSealed : PageShape → (floor : ℕ) → List Visit → Type 0
+WereSealed shape floor visits = All (λ (x : Visit). SealedThen shape floor x.slot x.gate) visits
+
+-- no entry was added; there may be visits more, of gates that were sealed then
+pub record PassRetried (shape : PageShape) (before after : PassHeld) : Type 0 where
+  pub more : List Visit
+  pub sealed : WereSealed shape before.floor more
+  pub held : after ≡ record before { visits = before.visits ++ more }
+
+-- the entry stands last, in this page; there may be visits more, of gates that were sealed then; all else is as before
+pub record PassRecorded (shape : PageShape) (sig : Sig) (before after : PassHeld) (page : PageNo) : Type 0 where
+  pub more : List Visit
+  pub sealed : WereSealed shape before.floor more
+  pub held : after ≡ record before { entries = before.entries ++ record { page = page; sig = sig } ∷ []; visits = before.visits ++ more }

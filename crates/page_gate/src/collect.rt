@@ -42,7 +42,8 @@ impl Words {
     // Takes word `next`, and leaves 0 there.
     fn drain(&self, seat: &mut Seat<(), View>, slot: u8, next: u32) -> u64
         requires table { seat.old.table_id ≡ self.now.table.shared.table_id }
-        requires quiet { (slot < SLOTS) × (seat.old.me.0.role ≡ keeping) × ((slot_at seat.old.me.0.duties slot).phase ≡ Quiet next) × (next < width self.now.shape) }
+        requires quiet { (slot < SLOTS) × (seat.old.me.0.role ≡ keeping)
+            × ((slot_at seat.old.me.0.duties slot).phase ≡ Quiet next) × (next < width self.now.shape) }
         ensures { Acted self.now.shape (Drain slot) seat.old seat.new result }
     {
         self.drain_as::<Brand>(seat, slot, bits_at(&self.shape, slot, next))
@@ -57,7 +58,8 @@ impl Words {
     ) -> Result<Vec<u64>, NoMemory>
         requires table { seat.old.table_id ≡ self.now.table.shared.table_id }
         requires quiet { IsUntaken seat.old.me.0 slot }
-        ensures drained { IfOk result (λ words. StaysWith seat.old seat.new (drained_to seat.old.me.0 slot Free words.items)) }
+        ensures drained { IfOk result (λ words.
+            StaysWith seat.old seat.new (drained_to seat.old.me.0 slot Free words.items)) }
         ensures many { IfOk result (λ words. vec_len words ≡ width self.now.shape) }
         ensures met { OnOk result (IsMet self.now.shape seat.new.me.0) }
         ensures unchanged { OnErr result (seat.new ≡ seat.old) }
@@ -96,9 +98,10 @@ impl Plane {
         Ok(words)
     }
 
-    /// Takes the bits of a page that was settled as quiet, and frees its slot. They are exactly the marks of its entries: of the
-    /// keeper's and of those that passes have and the keeper will gather. Takes the memory for 2^(n-6) words before it takes the first;
-    /// `NoMemory` where there is none, and then nothing is changed. Costs 2^(n-6) swaps, and copies nothing.
+    /// Takes the bits of a page that was settled as quiet, and frees its slot. They are exactly the marks of its
+    /// entries: of the keeper's and of those that passes have and the keeper will gather. Takes the memory for 2^(n-6)
+    /// words before it takes the first; `NoMemory` where there is none, and then nothing is changed. Costs 2^(n-6)
+    /// swaps, and copies nothing.
     pub fn collect(
         &self,
         alloc: Global,

@@ -13,9 +13,9 @@ use spie_base::NoMemory;
 use std::alloc::Global;
 
 impl Plane {
-    /// Deals so many passes, 1 to `MOST_PASSES`. Their lists are empty, and their floor is the page of the slot at which the keeper
-    /// last pointed. Takes memory for the list alone; `NoMemory` where there is none, and then nothing is dealt. Costs a load for
-    /// each.
+    /// Deals so many passes, 1 to `MOST_PASSES`. Their lists are empty, and their floor is the page of the slot at
+    /// which the keeper last pointed. Takes memory for the list alone; `NoMemory` where there is none, and then nothing
+    /// is dealt. Costs a load for each.
     pub fn deal(
         &self,
         alloc: Global,
@@ -37,8 +37,9 @@ impl Plane {
         Ok(dealt)
     }
 
-    /// Takes in all passes that are out, in their order. Then nobody is inside, and the bits of every page are exactly the marks of the
-    /// keeper's entries of it. Takes no memory: entries are known to proofs alone. Costs a load for each.
+    /// Takes in all passes that are out, in their order. Then nobody is inside, and the bits of every page are exactly
+    /// the marks of the keeper's entries of it. Takes no memory: entries are known to proofs alone. Costs a load for
+    /// each.
     pub fn gather(&self, keeper: &mut Keeper, passes: Vec<Pass>)
         requires plane { keeper.old.table ≡ self.now.table }
         requires passes { All (λ p. p.table ≡ self.now.table) passes.items }

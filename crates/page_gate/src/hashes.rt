@@ -44,7 +44,8 @@ impl PageHashes {
     }
 }
 
-// The same of a page whose hash functions are not kept yet. It is apart, so that a record in the same page pays nothing for it.
+// The same of a page whose hash functions are not kept yet. It is apart, so that a record in the same page pays nothing
+// for it.
 fn marks_anew(kept: &mut Option<PageHashes>, shape: &PageShape, page: PageNo, sig: &Sig) -> Marks
     requires { IsShape shape.now }
     ensures value { AreMarks shape.now page.number sig.now result }
@@ -56,8 +57,8 @@ fn marks_anew(kept: &mut Option<PageHashes>, shape: &PageShape, page: PageNo, si
     marks
 }
 
-/// The marks of a signature in a page. Costs k positions, and 8·k words of the generator more where `kept` is of another page;
-/// then it becomes this one's.
+/// The marks of a signature in a page. Costs k positions, and 8·k words of the generator more where `kept` is of
+/// another page; then it becomes this one's.
 pub(crate) fn marks_in(
     kept: &mut Option<PageHashes>,
     shape: &PageShape,

@@ -36,7 +36,11 @@ impl Model for Keeper {
 
     ghost view = { λ k. record { table = k.seat.table_id; view = k.seat.me.0 } };
 
-    ghost invariant = { λ k. (k.out ≡ k.seat.me.0.duties.out) × (k.seat.me.0.state ≡ Idle) × (k.seat.me.0.role ≡ keeping) × (k.seat.me.1 ≡ []) × (k.slots ≡ k.seat.me.0.duties.slots) × (length k.seat.me.0.duties.slots ≡ SLOTS) × (HasOpen k.seat.me.0.duties → k.seat.me.0.duties.pointed ≡ open_slot k.seat.me.0.duties) × AreKept k.seat.me.0.duties };
+    ghost invariant = { λ k. (k.out ≡ k.seat.me.0.duties.out)
+        × (k.seat.me.0.state ≡ Idle) × (k.seat.me.0.role ≡ keeping) × (k.seat.me.1 ≡ [])
+        × (k.slots ≡ k.seat.me.0.duties.slots) × (length k.seat.me.0.duties.slots ≡ SLOTS)
+        × (HasOpen k.seat.me.0.duties → k.seat.me.0.duties.pointed ≡ open_slot k.seat.me.0.duties)
+        × AreKept k.seat.me.0.duties };
 }
 
 impl Keeper {

@@ -11,6 +11,7 @@ use gate_core::view::{Slot, View};
 use gate_core::{SlotPhase, first_words};
 use spie_base::{NoMemory, PageShape};
 use std::alloc::Global;
+use std::sync::Mutex;
 
 fn first_keeper(seat: Seat<(), View>) -> Keeper
     requires { seat.me ≡ (first_keeper, []) }
@@ -35,8 +36,8 @@ fn first_keeper(seat: Seat<(), View>) -> Keeper
 }
 
 impl Plane {
-    /// A new plane and its keeper. Page 0 is open, and three slots are free. Takes memory for 5 + 4·2^(n-6) words, once: a record takes
-    /// none.
+    /// A new plane and its keeper. Page 0 is open, and three slots are free. Takes memory for 5 + 4·2^(n-6) words,
+    /// once: a record takes none.
     pub fn open(alloc: Global, shape: PageShape) -> Result<(Plane, Keeper), NoMemory>
         requires { IsShape shape }
         ensures { IfOk result (λ r. (r.0.shape ≡ shape) × (r.1 ≡ record { table = r.0.table; view = first_keeper })) }
@@ -44,6 +45,7 @@ impl Plane {
         let words = first_words(alloc, &shape)?;
         let (table, seat) = Table::of_words(alloc, &words, &shape)?;
         let words = Words { table, shape };
-        Ok((Plane { words }, first_keeper(seat)))
+        let lock = Mutex::new(());
+        Ok((Plane { words, lock }, first_keeper(seat)))
     }
 }

@@ -28,9 +28,16 @@ impl Model for Pass {
 
     ghost Value = { PassHeld };
 
-    ghost view = { λ p. record { table = p.seat.table_id; floor = p.seat.me.0.floor; entries = p.seat.me.0.entries; visits = p.seat.me.0.visits } };
+    ghost view = { λ p. record {
+      table = p.seat.table_id;
+      floor = p.seat.me.0.floor;
+      entries = p.seat.me.0.entries;
+      visits = p.seat.me.0.visits;
+    } };
 
-    ghost invariant = { λ p. (p.last ≡ last_of p.seat.me.0.entries) × (p.seat.me.0.state ≡ Idle) × (p.seat.me.0.role ≡ passing) × (p.seat.me.1 ≡ []) × IsRising p.seat.me.0.floor p.seat.me.0.entries };
+    ghost invariant = { λ p. (p.last ≡ last_of p.seat.me.0.entries)
+        × (p.seat.me.0.state ≡ Idle) × (p.seat.me.0.role ≡ passing) × (p.seat.me.1 ≡ [])
+        × IsRising p.seat.me.0.floor p.seat.me.0.entries };
 }
 
 impl Pass {

@@ -60,7 +60,9 @@ impl Words {
         requires table { seat.old.table_id ≡ self.now.table.shared.table_id }
         requires slot { CanRead seat.old.me.0 page.number slot }
         requires marks { AreMarks self.now.shape page.number sig.now marks.now }
-        ensures reads { (more : List Probed) × StaysWith seat.old seat.new (noting_more seat.old.me.0 more) × ReadsTell self.now.shape page.number sig.now (length seat.old.me.0.entries) more result }
+        ensures reads { (more : List Probed)
+            × StaysWith seat.old seat.new (noting_more seat.old.me.0 more)
+            × ReadsTell self.now.shape page.number sig.now (length seat.old.me.0.entries) more result }
         ensures met { IsMet self.now.shape seat.new.me.0 }
     {
         let _sig = sig;
@@ -76,18 +78,19 @@ impl Words {
 }
 
 impl Plane {
-    /// Whether all marks of a signature are set in a page that is open, or closed and not collected. Reads the marks one after another, and
-    /// stops at the first that is not set; nothing is copied. With no pass out the answer is exact. Beside passes each read was true when
-    /// it was made: a false tells that the keeper's entries don't have all marks, and a true may be of records that are under way.
-    /// Takes no memory. Costs k positions and at most k loads; 8·k words of the generator more, where the keeper's last record or
-    /// probe was in another page.
+    /// Whether all marks of a signature are set in a page that is open, or closed and not collected. Reads the marks
+    /// one after another, and stops at the first that is not set; nothing is copied. With no pass out the answer is
+    /// exact. Beside passes each read was true when it was made: a false tells that the keeper's entries don't have all
+    /// marks, and a true may be of records that are under way. Takes no memory. Costs k positions and at most k loads;
+    /// 8·k words of the generator more, where the keeper's last record or probe was in another page.
     pub fn probe(&self, keeper: &mut Keeper, page: PageNo, sig: &Sig) -> bool
         requires plane { keeper.old.table ≡ self.now.table }
         requires stands { HasPage (phase_with keeper.old.view.duties page.number) }
         ensures reads { Probes self.now.shape page.number sig.now keeper.old keeper.new result }
         ensures alone { (keeper.old.view.duties.out ≡ 0)
             → IsTrue result ↔ HaveAllMarks self.now.shape keeper.old.view.entries page.number sig.now }
-        ensures missing { (result ≡ false) → HaveAllMarks self.now.shape keeper.old.view.entries page.number sig.now → ⊥ }
+        ensures missing { (result ≡ false)
+            → HaveAllMarks self.now.shape keeper.old.view.entries page.number sig.now → ⊥ }
         ensures met { IsMet self.now.shape keeper.new.view }
     {
         let slot = slot_with(&keeper.slots, page.number);

@@ -62,7 +62,8 @@ impl Words {
         requires alone { seat.old.me.0.duties.out ≡ 0 }
         ensures notes { OnOk result (OnlyNotes seat.old seat.new) }
         ensures many { IfOk result (λ words. vec_len words ≡ width self.now.shape) }
-        ensures set { IfOk result (λ words. record { n = self.now.shape.n; members = members_of words.items } ≡ marked_set self.now.shape seat.old.me.0.entries page.number) }
+        ensures set { IfOk result (λ words. record { n = self.now.shape.n; members = members_of words.items }
+            ≡ marked_set self.now.shape seat.old.me.0.entries page.number) }
         ensures met { OnOk result (IsMet self.now.shape seat.new.me.0) }
         ensures unchanged { OnErr result (seat.new ≡ seat.old) }
     {
@@ -76,8 +77,8 @@ impl Words {
 }
 
 impl Plane {
-    /// How many bits are set of a page that is open, or closed and not collected, where no pass is out: as many as its entries have
-    /// different marks. Takes no memory. Costs 2^(n-6) loads, and a count of bits for each.
+    /// How many bits are set of a page that is open, or closed and not collected, where no pass is out: as many as its
+    /// entries have different marks. Takes no memory. Costs 2^(n-6) loads, and a count of bits for each.
     pub fn fill(&self, keeper: &mut Keeper, page: PageNo) -> u32
         requires plane { keeper.old.table ≡ self.now.table }
         requires alone { keeper.old.view.duties.out ≡ 0 }
@@ -91,8 +92,9 @@ impl Plane {
         self.words.ones(&mut keeper.seat, page, slot)
     }
 
-    /// A copy of a page that is open, or closed and not collected, where no pass is out: exactly the marks of its entries. Takes memory for
-    /// 2^(n-6) words before the first load; `NoMemory` where there is none, and then nothing is changed. Costs 2^(n-6) loads.
+    /// A copy of a page that is open, or closed and not collected, where no pass is out: exactly the marks of its
+    /// entries. Takes memory for 2^(n-6) words before the first load; `NoMemory` where there is none, and then nothing
+    /// is changed. Costs 2^(n-6) loads.
     pub fn snapshot(
         &self,
         alloc: Global,

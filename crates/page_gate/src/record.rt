@@ -39,7 +39,8 @@ impl Words {
     }
 
     fn enter(&self, seat: &mut Seat<(), View>, slot: u8, sig: &Sig) -> u64
-        requires { (seat.old.table_id ≡ self.now.table.shared.table_id) × Ready self.now.shape (Enter sig.now) seat.old × (slot < SLOTS) × (slot ≡ slot_of seat.old.me.0.state) }
+        requires { (seat.old.table_id ≡ self.now.table.shared.table_id) × Ready self.now.shape (Enter sig.now) seat.old
+            × (slot < SLOTS) × (slot ≡ slot_of seat.old.me.0.state) }
         ensures acted { Acted self.now.shape (Enter sig.now) seat.old seat.new result }
         ensures found { Found self.now.shape (Enter sig.now) seat.old.me.0 result }
     {
@@ -47,7 +48,8 @@ impl Words {
     }
 
     fn leave(&self, seat: &mut Seat<(), View>, slot: u8)
-        requires { (seat.old.table_id ≡ self.now.table.shared.table_id) × Ready self.now.shape Leave seat.old × (slot < SLOTS) × (slot ≡ slot_of seat.old.me.0.state) }
+        requires { (seat.old.table_id ≡ self.now.table.shared.table_id) × Ready self.now.shape Leave seat.old
+            × (slot < SLOTS) × (slot ≡ slot_of seat.old.me.0.state) }
         ensures { Acted self.now.shape Leave seat.old seat.new 0 }
     {
         self.leave_as::<Brand>(seat, slot);
@@ -56,7 +58,8 @@ impl Words {
     // Sets the mark number `i`, which is `mark`.
     fn set(&self, seat: &mut Seat<(), View>, slot: u8, page: PageNo, sig: &Sig, i: u8, mark: u32)
         requires table { seat.old.table_id ≡ self.now.table.shared.table_id }
-        requires inside { (seat.old.me.0.state ≡ Inside slot page sig.now i) × (i < self.now.shape.k) × (slot < SLOTS) × ¬ (seat.old.me.0.role ≡ Spent) }
+        requires inside { (seat.old.me.0.state ≡ Inside slot page sig.now i) × (i < self.now.shape.k)
+            × (slot < SLOTS) × ¬ (seat.old.me.0.role ≡ Spent) }
         requires mark { mark ≡ position self.now.shape page.number sig.now i }
         ensures { Acted self.now.shape Set seat.old seat.new 0 }
     {
@@ -74,7 +77,8 @@ impl Words {
         sig: &Sig,
     )
         requires table { seat.old.table_id ≡ self.now.table.shared.table_id }
-        requires inside { (seat.old.me.0.state ≡ Inside slot page sig.now 0) × (slot < SLOTS) × ¬ (seat.old.me.0.role ≡ Spent) }
+        requires inside { (seat.old.me.0.state ≡ Inside slot page sig.now 0)
+            × (slot < SLOTS) × ¬ (seat.old.me.0.role ≡ Spent) }
         ensures { StaysWith seat.old seat.new (moved_to seat.old.me.0 (Inside slot page sig.now self.now.shape.k)) }
     {
         let marks = marks_in(kept, &self.shape, page, sig);
@@ -93,7 +97,8 @@ impl Words {
         sig: &Sig,
     )
         requires table { seat.old.table_id ≡ self.now.table.shared.table_id }
-        requires inside { (seat.old.me.0.state ≡ Inside slot page sig.now 0) × (slot < SLOTS) × ¬ (seat.old.me.0.role ≡ Spent) }
+        requires inside { (seat.old.me.0.state ≡ Inside slot page sig.now 0)
+            × (slot < SLOTS) × ¬ (seat.old.me.0.role ≡ Spent) }
         ensures recorded { RecordedIn page sig.now seat.old seat.new }
         ensures met { IsMet self.now.shape seat.new.me.0 }
     {
@@ -133,7 +138,8 @@ impl Words {
         sig: &Sig,
     ) -> PageNo
         requires table { seat.old.table_id ≡ self.now.table.shared.table_id }
-        requires keeper { (seat.old.me.0.state ≡ Idle) × (seat.old.me.0.role ≡ keeping) × ¬ (seat.old.me.0.role ≡ Spent) }
+        requires keeper { (seat.old.me.0.state ≡ Idle)
+            × (seat.old.me.0.role ≡ keeping) × ¬ (seat.old.me.0.role ≡ Spent) }
         requires open { (slot_at seat.old.me.0.duties seat.old.me.0.duties.pointed).phase ≡ Open }
         ensures page { result.number ≡ (slot_at seat.old.me.0.duties seat.old.me.0.duties.pointed).page }
         ensures recorded { RecordedIn result sig.now seat.old seat.new }

@@ -71,7 +71,8 @@ impl Words {
         requires keeper { seat.old.me.0.role ≡ keeping }
         requires from { (from ≡ open_slot seat.old.me.0.duties) × (from < SLOTS) }
         requires to { (to < SLOTS) × ((slot_at seat.old.me.0.duties to).phase ≡ Free) }
-        requires pages { (old ≡ (slot_at seat.old.me.0.duties to).page) × (next ≡ seat.old.me.0.duties.next) × (next + 1 < 2 ^ 32) }
+        requires pages { (old ≡ (slot_at seat.old.me.0.duties to).page)
+            × (next ≡ seat.old.me.0.duties.next) × (next + 1 < 2 ^ 32) }
         ensures rotated { StaysWith seat.old seat.new (rotated_to seat.old.me.0 to) }
         ensures met { IsMet self.now.shape seat.new.me.0 }
     {
@@ -82,8 +83,9 @@ impl Words {
 }
 
 impl Plane {
-    /// Closes the open page, and opens the next one in a free slot; records enter it from now on. Records that are inside the closed page
-    /// finish there. Waits for nobody, takes no lock and no memory. Costs a fetch-or, a fetch-add and a store.
+    /// Closes the open page, and opens the next one in a free slot; records enter it from now on. Records that are
+    /// inside the closed page finish there. Waits for nobody, takes no lock and no memory. Costs a fetch-or, a
+    /// fetch-add and a store.
     pub fn rotate_alone(&self, keeper: &mut Keeper) -> PageNo
         requires plane { keeper.old.table ≡ self.now.table }
         requires open { HasOpen keeper.old.view.duties }

@@ -41,9 +41,9 @@ impl Words {
 }
 
 impl Plane {
-    /// Seals the open page, and gives it. Records that are inside it finish there; no other enters it from now on. Takes no
-    /// memory. Costs one fetch-or.
-    pub fn seal(&self, keeper: &mut Keeper) -> PageNo
+    /// Seals the open page, and gives it. Records that are inside it finish there; no other enters it from now on.
+    /// Takes no memory. Costs one fetch-or.
+    pub(crate) fn seal(&self, keeper: &mut Keeper) -> PageNo
         requires plane { keeper.old.table ≡ self.now.table }
         requires open { HasOpen keeper.old.view.duties }
         ensures page { result.number ≡ open_page keeper.old.view.duties }

@@ -71,8 +71,9 @@ impl Plane {
         }
     }
 
-    /// Looks whether a closed page is quiet, and waits for nobody. A page that was quiet once stays so, and is not looked at again.
-    /// With no pass out it is always quiet. Takes no memory. Costs one load, and none where the page was quiet before.
+    /// Looks whether a closed page is quiet, and waits for nobody. A page that was quiet once stays so, and is not
+    /// looked at again. With no pass out it is always quiet. Takes no memory. Costs one load, and none where the page
+    /// was quiet before.
     pub fn settle(&self, keeper: &mut Keeper, page: PageNo) -> Settled
         requires plane { keeper.old.table ≡ self.now.table }
         requires waiting { IsWaiting keeper.old.view.duties page.number }

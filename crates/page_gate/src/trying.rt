@@ -11,10 +11,10 @@ use crate::record::Tried;
 use spie_base::{Entry, PageNo, Sig};
 
 impl Plane {
-    /// One try, which waits for nobody and takes no memory. `Entered(page)`: the entry (page, sig) stands last in the pass's list.
-    /// `Sealed`: the gate was sealed, and the list is as before; it never comes while the page that was open at the `deal` is open.
-    /// Costs k positions, a load, a fetch-add, k fetch-ors and a fetch-sub; the first record of a pass in a page 8·k words of the
-    /// generator more.
+    /// One try, which waits for nobody and takes no memory. `Entered(page)`: the entry (page, sig) stands last in the
+    /// pass's list. `Sealed`: the gate was sealed, and the list is as before; it never comes while the page that was
+    /// open at the `deal` is open. Costs k positions, a load, a fetch-add, k fetch-ors and a fetch-sub; the first
+    /// record of a pass in a page 8·k words of the generator more.
     pub fn try_record(&self, pass: &mut Pass, sig: &Sig) -> Tried
         requires plane { pass.old.table ≡ self.now.table }
         ensures plane { pass.new.table ≡ pass.old.table }

@@ -2,9 +2,10 @@
 //!
 //! `plane_bench WHAT K THREADS RECORDS` does so many records in each thread, of 256 signatures over and over, and prints one number
 //! that does not depend on time. WHAT is `loop` (a byte of each signature), `page` (into one Bloom filter that no other
-//! thread has), `shared` (each thread through a pass of its own, all on one plane) or `own` (each thread on a plane of its
-//! own). K is 1 to 8 marks, THREADS 1 to 16, which `shared` and `own` alone look at. It ends with 0, with 2 for other words, 5 where it
-//! can't print, and 6 where there is no memory. Nothing is proved of it but that it is safe: what records do is the contract of `page_gate`.
+//! thread has), `shared` (each thread through a pass of its own, all on one plane), `record` (the same by `record`, which may wait)
+//! or `own` (each thread on a plane of its own). K is 1 to 8 marks, THREADS 1 to 16, which the last three alone look at. It ends with
+//! 0, with 2 for other words, 5 where it can't print, and 6 where there is no memory. Nothing is proved of it but that it is safe:
+//! what records do is the contract of `page_gate`.
 #![tactic(auto)]
 
 mod plain;
@@ -17,15 +18,17 @@ use crate::words::{What, Work, read_words};
 use spie_base::NoMemory;
 use std::alloc::Global;
 use std::process::ExitCode;
+use std::sync::Wait;
 use std::thread::Threads;
 
 // How many records entered, or what the plain loops came to.
-fn done<R: Threads + Sync>(rt: &R, alloc: Global, work: &Work) -> Result<u64, NoMemory> {
+fn done<R: Threads + Wait + Sync>(rt: &R, alloc: Global, work: &Work) -> Result<u64, NoMemory> {
     let course = course_of(work.records);
     match work.what {
         What::Loop => Ok(plain::read(&course)),
         What::Page => plain::page(alloc, &course, &work.shape),
         What::Shared => planes::shared(rt, alloc, work.shape, work.threads, &course),
+        What::Record => planes::record(rt, alloc, work.shape, work.threads, &course),
         What::Own => planes::own(rt, alloc, work.shape, work.threads, &course),
     }
 }

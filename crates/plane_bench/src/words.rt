@@ -13,6 +13,7 @@ pub enum What {
     Loop,
     Page,
     Shared,
+    Record,
     Own,
 }
 
@@ -33,6 +34,7 @@ fn what_is(word: &str) -> Option<What> {
         "loop" => Some(What::Loop),
         "page" => Some(What::Page),
         "shared" => Some(What::Shared),
+        "record" => Some(What::Record),
         "own" => Some(What::Own),
         _ => None,
     }

@@ -1,5 +1,5 @@
 use Rattle.std.proofs.Common.{◌≡◌}
-use Rattle.page_gate.proofs.tests.work.Given as goal
+use Rattle.plane_tests.proofs.tests.four_threads.work.Given as goal
 
 abbrev pub invariant-records : goal.invariant-records
 invariant-records l = l.job.pass.table ≡ l.plane.table

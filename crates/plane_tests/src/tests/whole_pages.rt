@@ -1,0 +1,86 @@
+// A page's bits are the marks of the records of all passes, by positions that `hash_family` works out apart.
+ghost use Rattle.std.specs.Prelude.{◌≡◌};
+
+use crate::tests::pieces::{P0, P1, family, mark, settled, sig_of, turned};
+use bloom_page::Page;
+use gate_core::SlotPhase;
+use page_gate::{Keeper, Pass, Plane, Settled, Tried};
+use spie_base::{NoMemory, PageShape, RouterId};
+use std::alloc::Global;
+use std::test::Fail;
+
+const SHAPE: PageShape = PageShape {
+    k: 3,
+    n: 8,
+    base: 7,
+    router: RouterId { number: 5 },
+};
+
+const RECORDS: u32 = 20;
+
+// How many records entered page 0.
+fn entered(plane: &Plane, pass: &mut Pass, worker: u8) -> u32
+    requires { pass.old.table ≡ plane.now.table }
+    ensures { pass.new.table ≡ plane.now.table }
+{
+    let mut entered = 0u32;
+    'records: for record in 0..RECORDS {
+        if plane.try_record(pass, &sig_of(worker, record)) == Tried::Entered(P0) {
+            entered = entered.wrapping_add(1);
+        }
+    }
+    entered
+}
+
+// The bits of the open page 0, read where no pass is out.
+fn read(alloc: Global, plane: &Plane, keeper: &mut Keeper) -> Result<Option<Page>, NoMemory>
+    requires { keeper.old.table ≡ plane.now.table }
+    ensures { keeper.new.table ≡ plane.now.table }
+{
+    let SlotPhase::Open = keeper.phase(P0) else {
+        return Ok(None);
+    };
+    if keeper.out() != 0 {
+        return Ok(None);
+    }
+    Ok(Some(plane.snapshot(alloc, keeper, P0)?))
+}
+
+#[test]
+fn bits_after_a_gather(rt: HostRuntime) -> Result<(), Fail> {
+    let alloc = rt.alloc();
+    let (plane, mut keeper) = Plane::open(alloc, SHAPE)?;
+    let mut passes = plane.deal(alloc, &mut keeper, 2)?;
+    let (Some(mut right), Some(mut left)) = (passes.pop(), passes.pop()) else {
+        return Err(Fail::from("no two passes"));
+    };
+    assert_eq!(rt; entered(&plane, &mut left, 1), RECORDS);
+    assert_eq!(rt; entered(&plane, &mut right, 2), RECORDS);
+    passes.push(left)?;
+    passes.push(right)?;
+    if passes.len() != keeper.out() as usize {
+        return Err(Fail::from("a pass is missing"));
+    }
+    plane.gather(&mut keeper, passes);
+    let family = family(&SHAPE, P0);
+    let mut words = [0u64; 4];
+    for record in 0..RECORDS {
+        mark(&mut words, &family, &sig_of(1, record));
+        mark(&mut words, &family, &sig_of(2, record));
+    }
+    let Some(page) = read(alloc, &plane, &mut keeper)? else {
+        return Err(Fail::from("page 0 is not open"));
+    };
+    assert_eq!(rt; page.words(), words.as_slice());
+    assert_eq!(rt; turned(&plane, &mut keeper), Some(P1));
+    let Some(oldest) = keeper.oldest() else {
+        return Err(Fail::from("no page is closed"));
+    };
+    assert_eq!(rt; oldest, P0);
+    let Settled::Quiet = settled(&plane, &mut keeper, oldest) else {
+        return Err(Fail::from("page 0 is not quiet"));
+    };
+    let page = plane.collect(alloc, &mut keeper, oldest)?;
+    assert_eq!(rt; page.words(), words.as_slice());
+    Ok(())
+}
