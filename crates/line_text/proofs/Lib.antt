@@ -1,3 +1,5 @@
 pub mod BuiltLines
 pub mod Cuts
+pub mod NextLines
 pub mod Parts
+pub mod Readings

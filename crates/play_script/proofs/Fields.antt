@@ -1,5 +1,5 @@
 -- What a field that is read looks like, and the other way round.
-use Rattle.std.proofs.Common.{ℕ, ◌≡◌, ◌^◌, ◌≤◌, ◌<◌, List, refl, arith, sym, ◌∙◌, subst, Result, Ok, Err, Bool, true, false, cond, nat_lt, lit<}
+use Rattle.std.proofs.Common.{ℕ, ◌≡◌, ◌^◌, ◌≤◌, ◌<◌, List, refl, arith, sym, ◌∙◌, Result, Ok, Err, Bool, true, false, cond, nat_lt, lit<}
 use Rattle.std.proofs.lemmas.Bool.Decides.{nat_tests}
 use Rattle.std.proofs.lemmas.Slice.Eq.{bytes_eq-Decides}
 use Rattle.std.specs.Bool.{Decides}
@@ -16,35 +16,14 @@ use Rattle.hex.specs.declared.error.FromHexError.{FromHexError}
 use Rattle.spie_base.specs.declared.types.PageShape.{PageShape}
 use Rattle.spie_base.specs.declared.types.Sig.{Sig}
 use Rattle.trace_format.proofs.Again.{number_again, base_again}
-use Rattle.trace_format.proofs.FieldForms.{IsNumber, number_ok, number_err, base_ok, base_err, same}
+use Rattle.trace_format.proofs.FieldForms.{IsNumber, FieldMeets, bound, number_meets, base_meets, same}
 use Rattle.spie_base.specs.Decimal.{number_in}
 use Rattle.trace_format.specs.Outcomes.{◌>>=◌}
 use Rattle.trace_format.specs.Reading.{number, base_of}
 use Rattle.trace_format.specs.Spelling.{IsBase}
-use Rattle.trace_format.specs.declared.refused.WhyRefused.{WhyRefused}
 use Rattle.trace_format.specs.declared.refused.WhyRefused.TheVariants as why
 use Rattle.play_script.specs.Reading.{below, sig_of, sig_by, actor_in, shape_in}
 use Rattle.play_script.specs.Spelling.{IsActor, IsSig}
-
--- what was read is so, and only a field is refused
-abbrev pub FieldMeets : {A : Type 0} → (A → Type 0) → Result A WhyRefused → Type 0
-FieldMeets P (Ok x) = P x
-FieldMeets P (Err y) = y ≡ why.Field
-
--- what is so of the second step and of a refused field is so of both steps
-pub bound : {A B : Type 0} (P : A → Type 0) (W : Result B WhyRefused → Type 0) (r : Result A WhyRefused) (f : A → Result B WhyRefused) → FieldMeets P r → ((x : A) → P x → W (f x)) → W (Err why.Field) → W (r >>= f)
-bound P W (Ok x) f h more field = more x h
-bound P W (Err y) f h more field = let Q : WhyRefused → Type 0 = λ v. W (Err v) in subst Q (sym h) field
-
-meets_by : {A : Type 0} (P : A → Type 0) (r q : Result A WhyRefused) → q ≡ r → ((x : A) → q ≡ Ok x → P x) → ((y : WhyRefused) → q ≡ Err y → y ≡ why.Field) → FieldMeets P r
-meets_by P (Ok x) q e ok err = ok x e
-meets_by P (Err y) q e ok err = err y e
-
-pub number_meets : (field : List ℕ) (least most : ℕ) → most < 2 ^ 64 → FieldMeets (λ n. IsNumber field least most n) (number field least most)
-number_meets field least most small = meets_by (λ n. IsNumber field least most n) _ _ refl (λ n e. number_ok field least most n small e) (λ y e. number_err field least most y e)
-
-base_meets : (field : List ℕ) → FieldMeets (λ n. IsBase field n) (base_of field)
-base_meets field = meets_by (λ n. IsBase field n) _ _ refl (λ n e. base_ok field n e) (λ y e. base_err field y e)
 
 pub not_same : (a b : List ℕ) → bytes_eq a b ≡ false → a ≡ b → ⊥
 not_same a b f e = let d : Decides (bytes_eq a b) (a ≡ b) = bytes_eq-Decides a b in let t : bytes_eq a b ≡ true = d.1 e in absurd (cc)

@@ -1,12 +1,9 @@
 pub mod Again
-pub mod Complete
 pub mod Counts
-pub mod Counting
 pub mod Fields
-pub mod Lines
 pub mod Meets
+pub mod OneReading
 pub mod Sole
 pub mod SoundLines
 pub mod Taken
-pub mod Whole
 pub mod Wording

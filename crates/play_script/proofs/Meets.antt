@@ -10,13 +10,13 @@ use Rattle.gate_core.specs.declared.steps.Act.TheVariants as act
 use Rattle.gate_core.specs.declared.steps.Actor.{Actor}
 use Rattle.gate_core.specs.declared.steps.Step.{Step}
 use Rattle.spie_base.specs.declared.types.PageShape.{PageShape}
-use Rattle.trace_format.proofs.FieldForms.{IsNumber, same}
+use Rattle.trace_format.proofs.FieldForms.{IsNumber, bound, number_meets, same}
 use Rattle.play_script.specs.Limits.{most_steps}
 use Rattle.trace_format.specs.Outcomes.{◌>>=◌}
 use Rattle.trace_format.specs.Reading.{number}
 use Rattle.trace_format.specs.declared.refused.WhyRefused.{WhyRefused}
 use Rattle.trace_format.specs.declared.refused.WhyRefused.TheVariants as why
-use Rattle.play_script.proofs.Fields.{bound, number_meets, IsBelow, below_meets, sig_meets, actor_meets, IsSpelled, shape_meets}
+use Rattle.play_script.proofs.Fields.{IsBelow, below_meets, sig_meets, actor_meets, IsSpelled, shape_meets}
 use Rattle.play_script.proofs.Wording.{word_ok, none_at_version, other_version, none_at_core, other_core, none_at_steps, other_end, other_step}
 use Rattle.play_script.specs.Before.{Known}
 use Rattle.play_script.specs.Fault as form

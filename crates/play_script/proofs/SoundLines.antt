@@ -18,12 +18,13 @@ use Rattle.gate_core.specs.declared.steps.Actor.TheVariants as actor
 use Rattle.gate_core.specs.declared.steps.Step.{Step}
 use Rattle.spie_base.specs.declared.types.PageShape.{PageShape}
 use Rattle.play_script.specs.Limits.{most_steps, IsCore}
+use Rattle.line_text.proofs.Readings.{along}
 use Rattle.line_text.specs.Text.{lines}
 use Rattle.play_script.proofs.Again.{IsNarrow}
 use Rattle.play_script.specs.Before.{script_of, shape_of, passes_of, steps_of}
 use Rattle.play_script.specs.Said.{Said}
 use Rattle.play_script.specs.Said as said
-use Rattle.play_script.specs.Script.{Begins, IsLine, IsScript}
+use Rattle.play_script.specs.Script.{scripts, IsLine, IsScript}
 use Rattle.play_script.specs.Sound.{IsSound}
 use Rattle.play_script.specs.Spelling.{Spells, SpellsAct, IsActor}
 use Rattle.play_script.specs.Words.{stage_of, may_come}
@@ -96,7 +97,7 @@ one_few steps step h = grind (arith, nat_tests, length-append)
 step_is : (far : PlayScript) (step : Step) (fields : List (List ℕ)) → 6 ≤ far.shape.n → Spells far (said.Does step) fields → is_step far.shape far.passes step ≡ true
 step_is far step fields n s = both_hold _ _ (actor_is far.passes step.actor s.0 s.3) (both_hold _ _ s.5 (act_is far.shape step.act s.1 n s.4))
 
-holds : (before : List Said) (line : List ℕ) (s : Said) → Holds before → IsLine before line s → Holds (s ∷ before)
+pub holds : (before : List Said) (line : List ℕ) (s : Said) → Holds before → IsLine before line s → Holds (s ∷ before)
 holds before line said.Version h l = record { in_range = h.in_range; router = h.router; some_pass = h.some_pass; few_passes = h.few_passes; each = h.each; few = h.few; none = λ e. h.none (early_version _ l.comes) }
 holds before line (said.Core passes shape) h l =
     let p = l.spelled in
@@ -113,7 +114,7 @@ holds before line (said.Does step) h l = record {
 }
 holds before line said.End h l = record { in_range = h.in_range; router = h.router; some_pass = h.some_pass; few_passes = h.few_passes; each = h.each; few = h.few; none = λ e. absurd (cc) }
 
-at_first : Holds []
+pub at_first : Holds []
 at_first = record {
   in_range = record { in_range = record { k_least = lit≤ tt; k_most = lit≤ tt; n_least = lit≤ tt; n_most = lit≤ tt }; n_most = lit≤ tt };
   router = refl;
@@ -124,12 +125,8 @@ at_first = record {
   none = λ e. refl;
 }
 
-all_hold : (parts : List (List ℕ)) (said : List Said) (rest : List (List ℕ)) → Begins parts said rest → Holds said
-all_hold parts [] rest b = at_first
-all_hold parts (s ∷ before) rest b = holds before b.0 s (all_hold parts before (b.0 ∷ rest) b.1) b.2
-
-pub narrow : (parts : List (List ℕ)) (said : List Said) (rest : List (List ℕ)) → Begins parts said rest → IsNarrow (script_of said)
-narrow parts said rest b = let h = all_hold parts said rest b in record { few_passes = h.few_passes; n_most = h.in_range.n_most }
+pub holds_narrow : (before : List Said) → Holds before → IsNarrow (script_of before)
+holds_narrow before h = record { few_passes = h.few_passes; n_most = h.in_range.n_most }
 
 pages_fit : (steps : List Step) → length steps ≤ most_steps → count_by opens_page steps + 1 < 2 ^ 32
 pages_fit steps few = let c = count_by-le-length opens_page steps in omega (arith, few, c)
@@ -137,5 +134,5 @@ pages_fit steps few = let c = count_by-le-length opens_page steps in omega (arit
 pub script_is_sound : (text : List ℕ) (script : PlayScript) → IsScript text script → IsSound script
 script_is_sound text script t =
     let P : PlayScript → Type 0 = λ v. IsSound v in
-    let h = all_hold (lines text) t.said ([] ∷ []) t.lines_say in
-    subst P (sym t.script_is) (record { in_range = h.in_range.in_range; n_most = h.in_range.n_most; router = h.router; some_pass = h.some_pass; few_passes = h.few_passes; each = h.each; few = h.few; pages = pages_fit (steps_of t.said) h.few })
+    let h = along scripts Holds at_first holds (lines text) t.said ([] ∷ []) t.lines_say in
+    subst P (sym t.value_is) (record { in_range = h.in_range.in_range; n_most = h.in_range.n_most; router = h.router; some_pass = h.some_pass; few_passes = h.few_passes; each = h.each; few = h.few; pages = pages_fit (steps_of t.said) h.few })

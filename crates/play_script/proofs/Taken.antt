@@ -2,17 +2,19 @@
 use Rattle.std.proofs.Common.{ℕ, ◌≡◌, ◌≤◌, List, ◌∷◌, length, refl, ap, sym, ◌∙◌, Result, Ok, Err, Bool, true, false, cond, nat_lt}
 use Rattle.spie_base.proofs.Bounds.{is_past, within, is_within}
 use Rattle.trace_format.specs.Limits.{most_line_bytes}
+use Rattle.line_text.specs.Language.{how_many}
+use Rattle.line_text.specs.Reading.{LineMeets}
 use Rattle.line_text.specs.Text.{fields}
 use Rattle.trace_format.specs.declared.refused.WhyRefused.{WhyRefused}
 use Rattle.trace_format.specs.declared.refused.WhyRefused.TheVariants as why
 use Rattle.play_script.proofs.Again.{IsNarrow, spelled_reads, taken}
 use Rattle.play_script.proofs.Meets.{known_at, Reason, Meets, fields_meet}
-use Rattle.play_script.specs.Before.{Known, known_of, script_of, how_many}
-use Rattle.play_script.specs.Fault.{FieldsBreak, IsBad}
-use Rattle.play_script.specs.Reading.{grown, line_at, read_line}
+use Rattle.play_script.specs.Before.{Known, known_of, script_of}
+use Rattle.play_script.specs.Fault.{FieldsBreak, IsBad, refusals}
+use Rattle.play_script.specs.Reading.{grown, line_at, read_line, reader}
 use Rattle.play_script.specs.Said.{Said}
 use Rattle.play_script.specs.Said as said
-use Rattle.play_script.specs.Script.{IsLine}
+use Rattle.play_script.specs.Script.{IsLine, scripts}
 use Rattle.play_script.specs.Spelling.{Spells}
 use Rattle.play_script.specs.Words.{stage_of, may_come, is_over}
 use Rattle.play_script.specs.declared.script.PlayScript.{PlayScript}
@@ -41,24 +43,19 @@ broken here read far fields why.Field narrow e w = record { form = w.form; has_w
 broken here read far fields why.TooMany narrow e w = w
 broken here read far fields _ narrow e w = w
 
--- what the reading of a line gives
-abbrev pub LineMeets : List Said → List ℕ → Result Known WhyRefused → Type 0
-LineMeets before line (Ok new) = (s : Said) × IsLine before line s × (new ≡ known_of (s ∷ before))
-LineMeets before line (Err y) = IsBad before line y
-
 as_bad : (before : List Said) (line : List ℕ) (y : WhyRefused) → length line ≤ most_line_bytes → FieldsBreak (stage_of before) (script_of before) (fields line) y → IsBad before line y
 as_bad before line why.Length short b = absurd b
 as_bad before line y short b = (short, b)
 
-short_meets : (before : List Said) (line : List ℕ) (r : Result Known WhyRefused) → IsNarrow (script_of before) → length line ≤ most_line_bytes → line_at (stage_of before) (known_of before) (fields line) ≡ r → Meets (stage_of before) (script_of before) (known_of before) (fields line) r → LineMeets before line r
+short_meets : (before : List Said) (line : List ℕ) (r : Result Known WhyRefused) → IsNarrow (script_of before) → length line ≤ most_line_bytes → line_at (stage_of before) (known_of before) (fields line) ≡ r → Meets (stage_of before) (script_of before) (known_of before) (fields line) r → LineMeets scripts refusals reader before line r
 short_meets before line (Ok new) narrow short e m = (m.said, record { short = short; comes = m.comes; spelled = m.spelled; fits = m.fits }, m.grows ∙ grown_known before m.said)
 short_meets before line (Err y) narrow short e m = as_bad before line y short (broken (stage_of before) (how_many before) (script_of before) (fields line) y narrow e m)
 
-line_meets_by : (before : List Said) (line : List ℕ) (b : Bool) → IsNarrow (script_of before) → is_over (stage_of before) ≡ false → nat_lt most_line_bytes (length line) ≡ b → LineMeets before line (cond b (Err why.Length) (line_at (stage_of before) (known_of before) (fields line)))
+line_meets_by : (before : List Said) (line : List ℕ) (b : Bool) → IsNarrow (script_of before) → is_over (stage_of before) ≡ false → nat_lt most_line_bytes (length line) ≡ b → LineMeets scripts refusals reader before line (cond b (Err why.Length) (line_at (stage_of before) (known_of before) (fields line)))
 line_meets_by before line true narrow o e = is_past most_line_bytes (length line) e
 line_meets_by before line false narrow o e = short_meets before line _ narrow (is_within most_line_bytes (length line) e) refl (fields_meet (stage_of before) (how_many before) (script_of before) (fields line) o)
 
-pub line_meets : (before : List Said) (line : List ℕ) → IsNarrow (script_of before) → is_over (stage_of before) ≡ false → LineMeets before line (read_line (known_of before) line)
+pub line_meets : (before : List Said) (line : List ℕ) → IsNarrow (script_of before) → is_over (stage_of before) ≡ false → LineMeets scripts refusals reader before line (read_line (known_of before) line)
 unfolding read_line
 line_meets before line narrow o = line_meets_by before line _ narrow o refl
 

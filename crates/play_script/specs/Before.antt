@@ -1,6 +1,7 @@
 -- What the lines before a line say together. The latest line stands first.
-use Rattle.std.specs.Prelude.{ℕ, ◌+◌, ◌^◌, List, [], ◌∷◌, ◌++◌}
+use Rattle.std.specs.Prelude.{ℕ, ◌^◌, List, [], ◌∷◌, ◌++◌}
 use Rattle.gate_core.specs.declared.steps.Step.{Step}
+use Rattle.line_text.specs.Language.{how_many}
 use Rattle.spie_base.specs.declared.types.PageShape.{PageShape}
 use Rattle.play_script.specs.Said.{Said}
 use Rattle.play_script.specs.Said as said
@@ -30,10 +31,6 @@ steps_of (_ ∷ before) = steps_of before
 -- all that the lines say
 abbrev pub script_of : List Said → PlayScript
 script_of before = record { shape = shape_of before; passes = passes_of before; steps = steps_of before }
-
-abbrev pub how_many : List Said → ℕ
-how_many [] = 0
-how_many (said ∷ before) = how_many before + 1
 
 -- what the reading keeps of them: also how far they go, how many they are, and how many positions a page has
 pub record Known : Type 0 where

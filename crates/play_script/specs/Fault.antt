@@ -1,17 +1,19 @@
 -- The first fault of a text: the first line that breaks a rule, and the first rule that it breaks.
-use Rattle.std.specs.Prelude.{ℕ, ◌+◌, ◌≤◌, ◌<◌, ◌≡◌, ◌≢◌, ◌⊎◌, List, [], ◌∷◌, length, Bool, true, false, codes}
-use Rattle.trace_format.specs.Fault.{LastBreaks, too_long}
-use Rattle.trace_format.specs.Limits.{most_bytes, most_line_bytes}
-use Rattle.line_text.specs.Text.{fields, lines}
+use Rattle.std.specs.Prelude.{ℕ, ◌≤◌, ◌<◌, ◌≡◌, ◌≢◌, List, [], ◌∷◌, length, true, codes}
+use Rattle.trace_format.specs.Fault.{refusals_by}
+use Rattle.trace_format.specs.Limits.{most_line_bytes}
+use Rattle.line_text.specs.Language as first
+use Rattle.line_text.specs.Language.{Refusals}
+use Rattle.line_text.specs.Text.{fields}
 use Rattle.trace_format.specs.declared.refused.TraceRefused.{TraceRefused}
 use Rattle.trace_format.specs.declared.refused.WhyRefused.{WhyRefused}
 use Rattle.trace_format.specs.declared.refused.WhyRefused.TheVariants as why
-use Rattle.play_script.specs.Before.{script_of, how_many}
+use Rattle.play_script.specs.Before.{script_of}
 use Rattle.play_script.specs.Said.{Said}
-use Rattle.play_script.specs.Script.{Begins, is_over_limit}
+use Rattle.play_script.specs.Script.{scripts, is_over_limit}
 use Rattle.play_script.specs.Spelling.{Spells}
 use Rattle.play_script.specs.Words as words
-use Rattle.play_script.specs.Words.{word_text, stage_of, may_come, is_over}
+use Rattle.play_script.specs.Words.{word_text, stage_of, may_come}
 use Rattle.play_script.specs.declared.script.PlayScript.{PlayScript}
 use Rattle.play_script.specs.declared.words.Stage.{Stage}
 use Rattle.play_script.specs.declared.words.Stage.TheVariants as stage
@@ -76,25 +78,9 @@ abbrev pub IsBad : List Said → List ℕ → WhyRefused → Type 0
 IsBad before line why.Length = most_line_bytes < length line
 IsBad before line rule = (length line ≤ most_line_bytes) × FieldsBreak (stage_of before) (script_of before) (fields line) rule
 
-abbrev pub LineBreaks : Bool → List Said → List ℕ → WhyRefused → Type 0
-LineBreaks true before line rule = rule ≡ why.After
-LineBreaks false before line rule = IsBad before line rule
-
--- the first of these parts breaks this rule first
-abbrev pub RestBreaks : List Said → List (List ℕ) → WhyRefused → Type 0
-RestBreaks before [] rule = ⊥
-RestBreaks before (last ∷ []) rule = LastBreaks (is_over (stage_of before)) last rule
-RestBreaks before (line ∷ next ∷ more) rule = LineBreaks (is_over (stage_of before)) before line rule
-
--- the lines before the fault break no rule, and its line does
-pub record HasFault (text : List ℕ) (fault : TraceRefused) : Type 0 where
-  pub fits : length text ≤ most_bytes
-  pub before : List Said
-  pub rest : List (List ℕ)
-  pub lines_say : Begins (lines text) before rest
-  pub line_is : fault.line ≡ how_many before + 1
-  pub breaks : RestBreaks before rest fault.why
+abbrev pub refusals : Refusals Said WhyRefused TraceRefused
+refusals = refusals_by IsBad
 
 -- a text with more bytes than a script may have, or with a first faulty line
 abbrev pub IsFault : List ℕ → TraceRefused → Type 0
-IsFault text fault = ((most_bytes < length text) × (fault ≡ too_long)) ⊎ HasFault text fault
+IsFault text fault = first.IsFault scripts refusals text fault

@@ -1,5 +1,5 @@
 -- What the private functions of the reader answer, line by line. `read_play` itself is promised by `Script` and `Fault`.
-use Rattle.std.specs.Prelude.{ℕ, ◌+◌, ◌^◌, List, [], ◌∷◌, ◌++◌, length, ◌==◌, if◌then◌else◌, nat_le, nat_lt, Result, Ok, Err, codes}
+use Rattle.std.specs.Prelude.{ℕ, ◌+◌, ◌^◌, List, [], ◌∷◌, ◌++◌, length, if◌then◌else◌, nat_le, nat_lt, Result, Ok, Err, codes}
 use Rattle.std.specs.Str.{bytes_eq}
 use Rattle.std.specs.declared.option.Option.{Option}
 use Rattle.std.specs.declared.option.Option.TheVariants.{None, Some}
@@ -15,12 +15,14 @@ use Rattle.spie_base.specs.declared.types.Sig.{Sig}
 use Rattle.spie_base.specs.declared.types.TheConstants.{K_MOST, N_LEAST}
 use Rattle.gate_core.specs.declared.limits.TheConstants.{MOST_PASSES, SLOTS}
 use Rattle.play_script.specs.declared.script.TheConstants.{CORE_N_MOST}
-use Rattle.trace_format.specs.Fault.{too_long}
+use Rattle.line_text.specs.Reading as texts
+use Rattle.line_text.specs.Reading.{Reader}
+use Rattle.play_script.specs.Fault.{refusals}
 use Rattle.trace_format.specs.Limits.{most_bytes, most_line_bytes}
 use Rattle.play_script.specs.Limits.{most_steps}
 use Rattle.trace_format.specs.Outcomes.{◌>>=◌}
 use Rattle.trace_format.specs.Reading.{number, base_of}
-use Rattle.line_text.specs.Text.{fields, lines}
+use Rattle.line_text.specs.Text.{fields}
 use Rattle.trace_format.specs.declared.refused.TraceRefused.{TraceRefused}
 use Rattle.trace_format.specs.declared.refused.WhyRefused.{WhyRefused}
 use Rattle.trace_format.specs.declared.refused.WhyRefused.TheVariants as why
@@ -176,30 +178,23 @@ line_at stage.Over known fields = Err why.After
 unfoldable pub read_line : Known → List ℕ → Result Known WhyRefused
 read_line known text = if nat_lt most_line_bytes (length text) then Err why.Length else line_at known.stage known (fields text)
 
-abbrev pub refused : Known → WhyRefused → TraceRefused
-refused known why = record { line = known.read + 1; why = why }
-
-abbrev pub then_read : Known → Result Known WhyRefused → (Known → Result Known TraceRefused) → Result Known TraceRefused
-then_read known (Ok new) more = more new
-then_read known (Err why) more = Err (refused known why)
-
--- behind the last line nothing stands
-unfoldable pub read_lines : Known → List (List ℕ) → Result Known TraceRefused
-read_lines known [] = Err (refused known why.Ending)
-read_lines known (last ∷ []) = if is_over known.stage then (if length last == 0 then Ok known else Err (refused known why.After)) else Err (refused known why.Ending)
-read_lines known (text ∷ next ∷ more) = if is_over known.stage then Err (refused known why.After) else then_read known (read_line known text) (λ new. read_lines new (next ∷ more))
-
--- the whole text
-unfoldable pub known_in : List ℕ → Result Known TraceRefused
-known_in text = if nat_lt most_bytes (length text) then Err too_long else read_lines (known_of []) (lines text)
-
 abbrev pub script_in : Known → PlayScript
 script_in known = record { shape = known.shape; passes = known.passes; steps = known.steps }
 
-abbrev pub script_by : Result Known TraceRefused → Result PlayScript TraceRefused
-script_by (Ok known) = Ok (script_in known)
-script_by (Err fault) = Err fault
+-- what is known of a script's lines, and how one more is read
+abbrev pub reader : Reader Said Known WhyRefused PlayScript
+reader = record {
+  known_of = known_of;
+  is_over = λ known. is_over known.stage;
+  count = λ known. known.read;
+  read_line = read_line;
+  value_of = script_in;
+}
+
+-- one line after another
+unfoldable pub read_lines : Known → List (List ℕ) → Result Known TraceRefused
+read_lines known parts = texts.read_lines refusals reader known parts
 
 -- the script that a text is, or its fault
 unfoldable pub read_of : List ℕ → Result PlayScript TraceRefused
-read_of text = script_by (known_in text)
+read_of text = texts.read_text refusals reader most_bytes text

@@ -1,8 +1,9 @@
 -- The texts that are scripts.
-use Rattle.std.specs.Prelude.{ℕ, ◌≤◌, ◌≡◌, List, [], ◌∷◌, length, Bool, true, false, nat_le}
+use Rattle.std.specs.Prelude.{ℕ, ◌≤◌, ◌≡◌, List, length, Bool, true, false, nat_le}
 use Rattle.trace_format.specs.Limits.{most_bytes, most_line_bytes}
 use Rattle.play_script.specs.Limits.{most_steps}
-use Rattle.line_text.specs.Text.{fields, lines}
+use Rattle.line_text.specs.Language.{Grammar, IsText}
+use Rattle.line_text.specs.Text.{fields}
 use Rattle.play_script.specs.Before.{script_of}
 use Rattle.play_script.specs.Said.{Said}
 use Rattle.play_script.specs.Said as said
@@ -22,15 +23,15 @@ pub record IsLine (before : List Said) (line : List ℕ) (said : Said) : Type 0 
   pub spelled : Spells (script_of before) said (fields line)
   pub fits : is_over_limit (script_of before) said ≡ false
 
--- a text's parts are lines that say this, of which the latest stands first, and then the rest
-abbrev pub Begins : List (List ℕ) → List Said → List (List ℕ) → Type 0
-Begins parts [] rest = parts ≡ rest
-Begins parts (said ∷ before) rest = (line : List ℕ) × Begins parts before (line ∷ rest) × IsLine before line said
+-- the lines of a script, of which `end` is the last, and the script that they say
+abbrev pub scripts : Grammar Said PlayScript
+scripts = record {
+  IsLine = IsLine;
+  is_over = λ said. is_over (stage_of said);
+  value_of = script_of;
+  most_bytes = most_bytes;
+}
 
 -- the text is the script's lines, of which the last is `end`, and nothing stands behind it
-pub record IsScript (text : List ℕ) (script : PlayScript) : Type 0 where
-  pub fits : length text ≤ most_bytes
-  pub said : List Said
-  pub lines_say : Begins (lines text) said ([] ∷ [])
-  pub ended : is_over (stage_of said) ≡ true
-  pub script_is : script ≡ script_of said
+abbrev pub IsScript : List ℕ → PlayScript → Type 0
+IsScript text script = IsText scripts text script

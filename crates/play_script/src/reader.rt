@@ -17,7 +17,7 @@ use std::alloc::Global;
 use trace_format::{MOST_BYTES, ReadTraceRefused, Stop, WhyRefused};
 
 // What stands behind the last line end.
-#[tactic(auto, unfolding(crate::specs::Reading::read_lines))]
+#[tactic(auto, unfolding(crate::specs::Reading::read_lines, line_text::specs::Reading::read_lines))]
 fn ended(draft: &Draft, last: &[u8]) -> Result<(), ReadTraceRefused>
     requires { draft.now.read < 2 ^ 41 }
     ensures { Reads (λ _. draft.now) result (reading.read_lines draft.now (last.now ∷ [])) }
@@ -53,7 +53,7 @@ fn read_lines(alloc: Global, text: &[u8]) -> Result<Draft, ReadTraceRefused>
     Ok(draft)
 }
 
-#[tactic(auto, unfolding(crate::specs::Reading::read_of, crate::specs::Reading::known_in))]
+#[tactic(auto, unfolding(crate::specs::Reading::read_of, crate::specs::Reading::read_lines))]
 fn read_text(alloc: Global, text: &[u8]) -> Result<PlayScript, ReadTraceRefused>
     ensures { Reads (λ script. script) result (reading.read_of text.now) }
 {

@@ -1,26 +1,22 @@
 -- What is refused has this fault first.
-use Rattle.std.proofs.Common.{ℕ, ◌≡◌, ◌≢◌, ◌+◌, ◌≤◌, ◌⊎◌, inl, inr, List, [], ◌∷◌, length, refl, ap, sym, ◌∙◌, subst, Result, Ok, Err, Bool, true, false, cond, ◌==◌, nat_lt}
+use Rattle.std.proofs.Common.{ℕ, ◌≡◌, ◌≢◌, ◌≤◌, inl, inr, List, ◌∷◌, length, refl, ap, sym, ◌∙◌, subst, Err, Bool, true, false, cond, nat_lt}
 use Rattle.std.specs.declared.option.Option.{Option}
 use Rattle.std.specs.declared.option.Option.TheVariants.{None, Some}
-use Rattle.spie_base.proofs.Bounds.{is_past, is_within, some_items}
-use Rattle.trace_format.specs.declared.refused.TraceRefused.{TraceRefused}
+use Rattle.spie_base.proofs.Bounds.{is_past, is_within}
 use Rattle.trace_format.specs.declared.refused.WhyRefused.{WhyRefused}
 use Rattle.trace_format.specs.declared.refused.WhyRefused.TheVariants as why
 use Rattle.trace_format.specs.declared.words.Stage.{Stage}
 use Rattle.trace_format.specs.Before.{Known, known_of}
-use Rattle.trace_format.specs.Fault.{too_long, HasWord, IsBad, IsRefused, RestBreaks, IsFault}
-use Rattle.trace_format.specs.Reading.{read_line, read_lines, by_fields, refused, then_read, known_in, accept, trace_by, read_of}
+use Rattle.trace_format.specs.Fault.{HasWord, IsBad, IsRefused}
+use Rattle.trace_format.specs.Reading.{read_line, by_fields, accept}
 use Rattle.trace_format.specs.Spelling.{Spells}
 use Rattle.trace_format.specs.Table.{first_of, table, breaks}
-use Rattle.line_text.specs.Text.{lines, fields}
-use Rattle.trace_format.specs.Trace.{Begins, IsLine}
-use Rattle.trace_format.specs.Words.{stage_of, word_said, is_over, may_come, word_text, arity}
+use Rattle.line_text.specs.Text.{fields}
+use Rattle.trace_format.specs.Words.{stage_of, word_said, may_come, word_text, arity}
 use Rattle.trace_format.specs.Said.{Said}
-use Rattle.trace_format.proofs.Growing.{grown_known}
-use Rattle.line_text.proofs.Parts.{some_part}
-use Rattle.trace_format.proofs.Taken.{read_accepted, judged_fits}
-use Rattle.trace_format.proofs.Refusals.{fields_err, accept_err, PartsTrouble, Trouble}
-use Rattle.trace_format.specs.declared.limits.TheConstants.{MOST_BYTES, MOST_LINE_BYTES}
+use Rattle.trace_format.proofs.Refusals.{fields_err, accept_err, PartsTrouble}
+use Rattle.trace_format.proofs.LineForms.{Trouble}
+use Rattle.trace_format.specs.declared.limits.TheConstants.{MOST_LINE_BYTES}
 use Rattle.trace_format.proofs.Again.{spelled_reads}
 
 -- whether a rule looks at what a line says
@@ -116,87 +112,3 @@ by_length before text y false is e = by_parts before text y (is_within _ _ is) e
 pub line_bad : (before : List Said) (text : List ℕ) (y : WhyRefused) → read_line (known_of before) text ≡ Err y → IsBad before text y
 unfolding read_line
 line_bad before text y e = by_length before text y _ refl e
-
--- the whole text
-pub record Broke (parts : List (List ℕ)) (f : TraceRefused) : Type 0 where
-  pub before : List Said
-  pub rest : List (List ℕ)
-  pub lines_say : Begins parts before rest
-  pub line_is : f.line ≡ (known_of before).read + 1
-  pub breaks : RestBreaks before rest f.why
-
-broke : (parts : List (List ℕ)) (before : List Said) (rest : List (List ℕ)) (y : WhyRefused) (f : TraceRefused) → Begins parts before rest → RestBreaks before rest y → refused (known_of before) y ≡ f → Broke parts f
-broke parts before rest y f b r e = let P : TraceRefused → Type 0 = λ v. Broke parts v in subst P e (record { before = before; rest = rest; lines_say = b; line_is = refl; breaks = r })
-
-abbrev ErrF : TraceRefused → TraceRefused → Type 0
-ErrF x y = let z : Result Known TraceRefused = Err x in z ≡ Err y
-
-same_fault : (x y : TraceRefused) → ErrF x y → x ≡ y
-same_fault x y e = cc
-
-some_bytes : (b : Bool) (k : Known) (g f : TraceRefused) → b ≡ false → cond b (Ok k) (Err g) ≡ Err f → ErrF g f
-some_bytes true k g f z e = absurd (cc)
-some_bytes false k g f z e = e
-
-at_last : (parts : List (List ℕ)) (before : List Said) (last : List ℕ) (f : TraceRefused) (over : Bool) → is_over (stage_of before) ≡ over → Begins parts before (last ∷ []) → cond over (cond (length last == 0) (Ok (known_of before)) (Err (refused (known_of before) why.After))) (Err (refused (known_of before) why.Ending)) ≡ Err f → Broke parts f
-at_last parts before [] f true o b e = absurd (cc)
-at_last parts before (x ∷ xs) f true o b e =
-    let r : RestBreaks before ((x ∷ xs) ∷ []) why.After = rw o (λ q. cc, refl) in
-    broke parts before ((x ∷ xs) ∷ []) why.After f b r (same_fault _ _ (some_bytes (length (x ∷ xs) == 0) (known_of before) (refused (known_of before) why.After) f (some_items x xs) e))
-at_last parts before last f false o b e =
-    let r : RestBreaks before (last ∷ []) why.Ending = rw o refl in
-    broke parts before (last ∷ []) why.Ending f b r (same_fault _ _ e)
-
--- one line, and the rest
-abbrev pub Next : Known → Result Known WhyRefused → (Known → Result Known TraceRefused) → TraceRefused → Type 0
-Next known r more f = ((new : Known) × (r ≡ Ok new) × (more new ≡ Err f)) ⊎ ((y : WhyRefused) × (r ≡ Err y) × (refused known y ≡ f))
-
-next_by : (known : Known) (r : Result Known WhyRefused) (more : Known → Result Known TraceRefused) (f : TraceRefused) → then_read known r more ≡ Err f → Next known r more f
-next_by known (Ok new) more f e = inl (new, refl, e)
-next_by known (Err y) more f e = inr (y, refl, same_fault _ _ e)
-
-bad_at : (parts : List (List ℕ)) (before : List Said) (text next : List ℕ) (more : List (List ℕ)) (y : WhyRefused) (f : TraceRefused) → is_over (stage_of before) ≡ false → Begins parts before (text ∷ next ∷ more) → read_line (known_of before) text ≡ Err y → refused (known_of before) y ≡ f → Broke parts f
-bad_at parts before text next more y f o b r e =
-    let br : RestBreaks before (text ∷ next ∷ more) y = rw o (line_bad before text y r) in
-    broke parts before (text ∷ next ∷ more) y f b br e
-
-over_at : (parts : List (List ℕ)) (before : List Said) (text next : List ℕ) (more : List (List ℕ)) (f : TraceRefused) → is_over (stage_of before) ≡ true → Begins parts before (text ∷ next ∷ more) → ErrF (refused (known_of before) why.After) f → Broke parts f
-over_at parts before text next more f o b e =
-    let br : RestBreaks before (text ∷ next ∷ more) why.After = rw o refl in
-    broke parts before (text ∷ next ∷ more) why.After f b br (same_fault _ _ e)
-
-which : (b : Bool) (x y : Result Known TraceRefused) (f : TraceRefused) → cond b x y ≡ Err f → ((b ≡ true) × (x ≡ Err f)) ⊎ ((b ≡ false) × (y ≡ Err f))
-which true x y f e = inl (refl, e)
-which false x y f e = inr (refl, e)
-
-faulty : (parts : List (List ℕ)) (last : List ℕ) (rest : List (List ℕ)) (before : List Said) (f : TraceRefused) → Begins parts before (last ∷ rest) → read_lines (known_of before) (last ∷ rest) ≡ Err f → Broke parts f
-unfolding read_lines
-faulty parts last [] before f b e = at_last parts before last f (is_over (stage_of before)) refl b e
-faulty parts text (next ∷ more) before f b e =
-    elim (which (is_over (stage_of before)) (Err (refused (known_of before) why.After)) (then_read (known_of before) (read_line (known_of before) text) (λ new. read_lines new (next ∷ more))) f e) [
-      | inl p ↦ over_at parts before text next more f p.0 b p.1
-      | inr p ↦ elim (next_by (known_of before) (read_line (known_of before) text) (λ new. read_lines new (next ∷ more)) f p.1) [
-        | inl n ↦ (let s = read_accepted (known_of before) n.0 text n.1 in
-            let P : Known → Type 0 = λ v. read_lines v (next ∷ more) ≡ Err f in
-            let line : IsLine before text s.said = record { short = s.short; comes = s.comes; spelled = s.spelled; fits = judged_fits (known_of before) s.said s.fits } in
-            faulty parts next more (s.said ∷ before) f (text, b, line) (subst P (s.grows ∙ grown_known before s.said) n.2))
-        | inr n ↦ bad_at parts before text next more n.0 f p.0 b n.1 n.2
-      ]
-    ]
-
-trace_err : (r : Result Known TraceRefused) (f : TraceRefused) → trace_by r ≡ Err f → r ≡ Err f
-trace_err (Ok k) f e = absurd (cc)
-trace_err (Err g) f e = let q : g ≡ f = cc in rw q refl
-
-sized : (text : List ℕ) (b : Bool) (f : TraceRefused) → nat_lt MOST_BYTES (length text) ≡ b → cond b (Err too_long) (read_lines (known_of []) (lines text)) ≡ Err f → IsFault text f
-sized text true f t e = let q : too_long ≡ f = same_fault _ _ e in inl (is_past _ _ t, sym q)
-sized text false f t e =
-    let p = some_part text in
-    let P : List (List ℕ) → Type 0 = λ z. read_lines (known_of []) z ≡ Err f in
-    let b = faulty (lines text) p.first p.more [] f p.are (subst P p.are e) in
-    inr (record { fits = is_within _ _ t; before = b.before; rest = b.rest; lines_say = b.lines_say; line_is = b.line_is; breaks = b.breaks })
-
--- what is refused has this fault
-pub refused_is_fault : (text : List ℕ) (f : TraceRefused) → read_of text ≡ Err f → IsFault text f
-unfolding read_of known_in
-refused_is_fault text f e = sized text (nat_lt MOST_BYTES (length text)) f refl (trace_err (known_in text) f e)

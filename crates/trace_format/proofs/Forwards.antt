@@ -17,9 +17,9 @@ use Rattle.spie_base.proofs.Booleans.{both_held}
 use Rattle.spie_base.proofs.Bounds.{within}
 use Rattle.spie_base.proofs.DecimalText.{whole}
 use Rattle.trace_format.specs.Before.{Known}
-use Rattle.trace_format.specs.ForwardLine.{HasName, HasNumber, BeginsForward, IsNext}
+use Rattle.trace_format.specs.ForwardLine.{HasName, HasNumber, BeginsForward}
 use Rattle.trace_format.specs.Outcomes.{Fails, Ends, stopped}
-use Rattle.trace_format.specs.Reading.{accept, read_line, read_lines}
+use Rattle.trace_format.specs.Reading.{IsNext, accept, read_line, reader, read_lines}
 use Rattle.trace_format.specs.Said as said
 use Rattle.trace_format.specs.Spelling.{IsName}
 use Rattle.line_text.specs.Text.{fields, lines}
@@ -30,10 +30,11 @@ use Rattle.trace_format.specs.declared.refused.WhyRefused.TheVariants as why
 use Rattle.trace_format.specs.declared.steps.Stop.{Stop}
 use Rattle.trace_format.specs.declared.words.Word.TheVariants as word
 use Rattle.trace_format.proofs.Again.{spelled_reads}
-use Rattle.trace_format.proofs.Complete.{open_stage}
+use Rattle.trace_format.proofs.Stages.{open_stage}
 use Rattle.trace_format.proofs.FieldForms.{same}
-use Rattle.trace_format.proofs.Lines.{read_more, read_bad}
-use Rattle.trace_format.proofs.Taken.{read_one}
+use Rattle.line_text.proofs.NextLines.{read_bad}
+use Rattle.trace_format.proofs.Answering.{stops}
+use Rattle.trace_format.specs.Fault.{refusals}
 
 -- a part of a text, and what stands behind the byte after it
 pub parted : (text : List ℕ) (n b : ℕ) → n < length text → get_or text n 0 ≡ b → text ≡ take n text ++ b ∷ drop (n + 1) text
@@ -138,14 +139,14 @@ line_reads known text name after n b comes =
     rw t (spelled_reads known (said.Fwd name n) (fields b.line) b.spelled ∙ ap (λ z. cond z (accept known (said.Fwd name n)) (Err why.Word)) comes)
 
 pub forward_read : (known new : Known) (text name after : List ℕ) (n : ℕ) → BeginsForward text name n after → may_come known.stage word.Fwd ≡ true → accept known (said.Fwd name n) ≡ Ok new → IsNext known new text after
-forward_read known new text name after n b comes e =
-    let r : read_line known b.line ≡ Ok new = line_reads known text name after n b comes ∙ e in
-    record {
-      goes = read_more known new text b.line after b.cut (open_stage known.stage word.Fwd comes) r;
-      shorter = b.cut.shorter;
-      one = read_one known new b.line r;
-    }
+forward_read known new text name after n b comes e = record {
+  line = b.line;
+  cut = b.cut;
+  before_end = open_stage known.stage word.Fwd comes;
+  reads = line_reads known text name after n b comes ∙ e;
+}
 
 pub forward_bad : (known : Known) (text name after : List ℕ) (n : ℕ) (e : Stop) → BeginsForward text name n after → may_come known.stage word.Fwd ≡ true → Fails e (accept known (said.Fwd name n)) → Ends (stopped e (known.read + 1)) (read_lines known (lines text))
+unfolding read_lines
 forward_bad known text name after n e b comes f =
-    read_bad known text b.line after e b.cut (open_stage known.stage word.Fwd comes) (rw (line_reads known text name after n b comes) f)
+    stops e _ _ _ f (λ why bad. read_bad refusals reader known text b.line after why b.cut (open_stage known.stage word.Fwd comes) (line_reads known text name after n b comes ∙ bad))

@@ -1,28 +1,24 @@
 -- A text with a fault is refused with it.
-use Rattle.std.proofs.Common.{ℕ, ◌≡◌, ◌≢◌, ◌≤◌, ◌<◌, inl, inr, List, [], ◌∷◌, length, refl, ap, sym, ◌∙◌, subst, Result, Ok, Err, Bool, true, false, cond, ◌==◌}
+use Rattle.std.proofs.Common.{ℕ, ◌≡◌, ◌≢◌, ◌≤◌, ◌<◌, inl, inr, List, [], ◌∷◌, length, refl, ap, sym, ◌∙◌, subst, Result, Ok, Err, Bool, true, false, cond}
 use Rattle.std.specs.declared.option.Option.{Option}
 use Rattle.std.specs.declared.option.Option.TheVariants.{None, Some}
-use Rattle.spie_base.proofs.Bounds.{past, within, some_items}
-use Rattle.trace_format.specs.declared.refused.TraceRefused.{TraceRefused}
+use Rattle.spie_base.proofs.Bounds.{past, within}
 use Rattle.trace_format.specs.declared.refused.WhyRefused.{WhyRefused}
 use Rattle.trace_format.specs.declared.refused.WhyRefused.TheVariants as why
 use Rattle.trace_format.specs.declared.words.Word.{Word}
 use Rattle.trace_format.specs.Before.{Known, known_of}
-use Rattle.trace_format.specs.Fault.{HasWord, HasNoWord, IsBad, IsRefused, LastBreaks, LineBreaks, RestBreaks, IsFault}
-use Rattle.trace_format.specs.Reading.{read_line, read_lines, line_by, by_fields, by_word, refused, then_read, known_in, word_of, accept, judged, read_of}
+use Rattle.trace_format.specs.Fault.{HasWord, HasNoWord, IsBad, IsRefused}
+use Rattle.trace_format.specs.Reading.{read_line, line_by, by_fields, by_word, word_of, accept, judged}
 use Rattle.trace_format.specs.Spelling.{Spells}
 use Rattle.trace_format.specs.Table.{first_broken}
-use Rattle.line_text.specs.Text.{lines, fields}
-use Rattle.trace_format.specs.Trace.{Begins}
-use Rattle.trace_format.specs.Words.{stage_of, word_said, is_over, may_come, word_text, arity}
+use Rattle.line_text.specs.Text.{fields}
+use Rattle.trace_format.specs.Words.{word_said, may_come, word_text, arity}
 use Rattle.trace_format.specs.Said.{Said}
 use Rattle.trace_format.specs.Said as said
 use Rattle.trace_format.proofs.FieldForms.{word_ok, word_again}
-use Rattle.trace_format.proofs.Taken.{line_accepted}
-use Rattle.trace_format.proofs.Refusals.{line_err, Trouble}
+use Rattle.trace_format.proofs.LineForms.{Trouble, line_accepted, line_err}
 use Rattle.trace_format.proofs.Again.{spelled_reads}
-use Rattle.trace_format.specs.declared.limits.TheConstants.{MOST_BYTES, MOST_LINE_BYTES}
-use Rattle.trace_format.proofs.Complete.{complete}
+use Rattle.trace_format.specs.declared.limits.TheConstants.{MOST_LINE_BYTES}
 
 spelled_count : (s : Said) (parts : List (List ℕ)) → Spells s parts → length parts ≡ arity (word_said s)
 spelled_count said.Version parts s = ap length s
@@ -99,7 +95,7 @@ accept_refuses known s y e = rw e refl
 refused_sole : (before : List Said) (text : List ℕ) (y : WhyRefused) → (length text ≤ MOST_LINE_BYTES) × IsRefused before (fields text) y → read_line (known_of before) text ≡ Err y
 refused_sole before text y r = by_short (known_of before) text y r.0 (spelled_reads (known_of before) r.1.said (fields text) r.1.spelled ∙ (rw r.1.comes (accept_refuses (known_of before) r.1.said y r.1.first)))
 
-line_sole : (before : List Said) (text : List ℕ) (y : WhyRefused) → IsBad before text y → read_line (known_of before) text ≡ Err y
+pub line_sole : (before : List Said) (text : List ℕ) (y : WhyRefused) → IsBad before text y → read_line (known_of before) text ≡ Err y
 line_sole before text why.TooLong r = refused_sole before text why.TooLong r
 line_sole before text why.After r = refused_sole before text why.After r
 line_sole before text why.Ending r = refused_sole before text why.Ending r
@@ -122,29 +118,3 @@ line_sole before text why.NoPacket r = refused_sole before text why.NoPacket r
 line_sole before text why.Kind r = refused_sole before text why.Kind r
 line_sole before text why.Clock r = refused_sole before text why.Clock r
 line_sole before text why.Twice r = refused_sole before text why.Twice r
-
-abbrev ErrAt : List Said → WhyRefused → Result Known TraceRefused
-ErrAt before y = Err (refused (known_of before) y)
-
-last_sole : (before : List Said) (last : List ℕ) (y : WhyRefused) (over : Bool) → LastBreaks over last y → cond over (cond (length last == 0) (Ok (known_of before)) (Err (refused (known_of before) why.After))) (Err (refused (known_of before) why.Ending)) ≡ Err (refused (known_of before) y)
-last_sole before [] y true h = absurd (h.0 refl)
-last_sole before (x ∷ xs) y true h = rw (some_items x xs) (ap (λ v. ErrAt before v) (sym h.1))
-last_sole before last y false h = ap (λ v. ErrAt before v) (sym h)
-
-mid_sole : (before : List Said) (text next : List ℕ) (more : List (List ℕ)) (y : WhyRefused) (over : Bool) → LineBreaks over before text y → cond over (Err (refused (known_of before) why.After)) (then_read (known_of before) (read_line (known_of before) text) (λ new. read_lines new (next ∷ more))) ≡ Err (refused (known_of before) y)
-mid_sole before text next more y true h = ap (λ v. ErrAt before v) (sym h)
-mid_sole before text next more y false h = rw (line_sole before text y h) refl
-
-rest_sole : (parts : List (List ℕ)) (before : List Said) (rest : List (List ℕ)) (y : WhyRefused) → Begins parts before rest → RestBreaks before rest y → read_lines (known_of []) parts ≡ Err (refused (known_of before) y)
-unfolding read_lines
-rest_sole parts before [] y b h = absurd h
-rest_sole parts before (last ∷ []) y b h = complete parts before last [] b ∙ last_sole before last y (is_over (stage_of before)) h
-rest_sole parts before (text ∷ next ∷ more) y b h = complete parts before text (next ∷ more) b ∙ mid_sole before text next more y (is_over (stage_of before)) h
-
--- a fault is the one that is read
-pub fault_is_read : (text : List ℕ) (f : TraceRefused) → IsFault text f → read_of text ≡ Err f
-unfolding read_of known_in
-fault_is_read text f (inl p) = rw (past MOST_BYTES (length text) p.0) (ap (λ v. Err v) (sym p.1))
-fault_is_read text f (inr h) =
-    let r : read_lines (known_of []) (lines text) ≡ Err (refused (known_of h.before) f.why) = rest_sole (lines text) h.before h.rest f.why h.lines_say h.breaks in
-    rw (within MOST_BYTES (length text) h.fits, r) (ap (λ l. Err (record { line = l; why = f.why })) (sym h.line_is))

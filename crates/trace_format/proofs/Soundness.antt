@@ -9,18 +9,20 @@ use Rattle.spie_base.specs.Shapes.{AreInRange}
 use Rattle.spie_base.specs.declared.types.Rules.{Rules}
 use Rattle.topology.proofs.Sound.{sound_is_kept}
 use Rattle.topology.specs.Layout.{IsSound as IsSoundLayout}
-use Rattle.trace_format.proofs.Complete.{open_stage}
-use Rattle.trace_format.proofs.FewLines.{few_lines}
+use Rattle.trace_format.proofs.Stages.{open_stage}
+use Rattle.trace_format.proofs.FewLines.{few_kept}
 use Rattle.trace_format.proofs.MoreLines.{Covers, one_archived, AreOpen, open_push, one_end, LinesHold, at_first, same_lines, one_line}
 use Rattle.trace_format.proofs.Names.{names_of}
 use Rattle.trace_format.proofs.Unbroken.{Unbroken, unbroken, above, named, there, router_fits, link_fits}
-use Rattle.trace_format.specs.Before.{Known, known_of, layout_of, sigs_of, lines_of, router_of, number_of, how_many}
+use Rattle.line_text.proofs.Readings.{along}
+use Rattle.line_text.specs.Language.{Begins, how_many}
+use Rattle.trace_format.specs.Before.{Known, known_of, layout_of, sigs_of, lines_of, router_of, number_of}
 use Rattle.trace_format.specs.Said.{Said}
 use Rattle.trace_format.specs.Said as said
 use Rattle.trace_format.specs.Sound.{IsSound, HasOneEnd}
 use Rattle.trace_format.specs.Spelling.{Spells, IsName, IsFront, IsBack}
 use Rattle.trace_format.specs.Table.{breaks}
-use Rattle.trace_format.specs.Trace.{Begins, IsTrace}
+use Rattle.trace_format.specs.Trace.{traces, IsLine, IsTrace}
 use Rattle.trace_format.specs.Words.{stage_of, word_said, is_over}
 use Rattle.trace_format.specs.declared.items.Line.{Line}
 use Rattle.trace_format.specs.declared.items.Trace.{Trace}
@@ -138,8 +140,8 @@ holds before said.End parts h o p u =
     let q = one_line (known_of before).archived End h.lines tt tt tt tt (λ others c r z. refl) in
     record { front = h.front; back = h.back; topology = h.topology; spelled = h.spelled; few_packets = h.few_packets; few_records = h.few_records; lines = q; ends = one_end (lines_of before) (line_of before End) o refl }
 
-all_hold : (parts : List (List ℕ)) (said : List Said) (rest : List (List ℕ)) → Begins parts said rest → Holds (known_of said)
-all_hold parts [] rest b = record {
+at_start : Holds (known_of [])
+at_start = record {
   front = record { k = (lit≤ tt, lit≤ tt); n = (lit≤ tt, lit≤ tt); limit = (lit≤ tt, lit≤ tt); span = (lit≤ tt, lit≤ tt) };
   back = record { keep = (lit≤ tt, lit≤ tt); age = (lit≤ tt, lit≤ tt); width = lit≤ tt };
   topology = sound_is_kept.at_start;
@@ -149,10 +151,14 @@ all_hold parts [] rest b = record {
   lines = at_first;
   ends = All-nil (λ line. line.what ≢ End);
 }
-all_hold parts (s ∷ before) rest b =
-    let h = all_hold parts before (b.0 ∷ rest) b.1 in
-    let o = none_yet (known_of before) h (open_stage (stage_of before) (word_said s) b.2.comes) in
-    holds before s _ h o b.2.spelled (unbroken (breaks (known_of before) s) b.2.fits)
+
+one_more : (before : List Said) (line : List ℕ) (s : Said) → Holds (known_of before) → IsLine before line s → Holds (known_of (s ∷ before))
+one_more before line s h l =
+    let o = none_yet (known_of before) h (open_stage (stage_of before) (word_said s) l.comes) in
+    holds before s _ h o l.spelled (unbroken (breaks (known_of before) s) l.fits)
+
+all_hold : (parts : List (List ℕ)) (said : List Said) (rest : List (List ℕ)) → Begins traces parts said rest → Holds (known_of said)
+all_hold parts said rest b = along traces (λ said. Holds (known_of said)) at_start one_more parts said rest b
 
 shape_of : (rules : Rules) → IsFront rules → AreInRange rules.k rules.n
 shape_of rules front = record { k_least = front.k.0; k_most = front.k.1; n_least = front.n.0; n_most = (let h = front.n.1 in omega (arith, h)) }
@@ -167,7 +173,7 @@ pub trace_is_sound : (text : List ℕ) (trace : Trace) → IsTrace text trace �
 trace_is_sound text trace t =
     let P : Trace → Type 0 = λ v. IsSound v in
     let h = all_hold _ t.said _ t.lines_say in
-    subst P (sym t.trace_is) (record {
+    subst P (sym t.value_is) (record {
       front = h.front;
       back = h.back;
       shape = shape_of _ h.front;
@@ -175,7 +181,7 @@ trace_is_sound text trace t =
       names = names_of (layout_of t.said).names h.spelled h.topology.names;
       few_packets = h.few_packets;
       few_records = few_recorded _ _ _ h.lines.recorded_are h.few_records;
-      few = few_lines text t.said t.fits t.lines_say t.ended;
+      few = few_kept text t.said t.fits t.lines_say t.ended;
       within = h.lines.within;
       timed = h.lines.timed;
       times = h.lines.times;

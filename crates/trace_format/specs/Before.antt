@@ -1,5 +1,6 @@
 -- What the lines before a line declare, count and last say. The latest line stands first.
 use Rattle.std.specs.Prelude.{ℕ, ◌+◌, List, [], ◌∷◌, ◌++◌, Bool, true, false}
+use Rattle.line_text.specs.Language.{how_many}
 use Rattle.packet_signature.specs.Signature.{signature_of}
 use Rattle.spie_base.specs.declared.types.Rules.{Rules}
 use Rattle.spie_base.specs.declared.types.RouterId.{RouterId}
@@ -56,10 +57,6 @@ whats layout _ = []
 abbrev pub added : List Line → ℕ → List What → List Line
 added lines number [] = lines
 added lines number (w ∷ more) = lines ++ record { number = number; what = w } ∷ []
-
-abbrev pub how_many : List Said → ℕ
-how_many [] = 0
-how_many (said ∷ before) = how_many before + 1
 
 -- the lines behind `begin` that are no packets, with their numbers
 abbrev pub lines_of : List Said → List Line

@@ -1,14 +1,16 @@
 -- The first fault of a text: the first line that breaks a rule, and the first rule that it breaks.
-use Rattle.std.specs.Prelude.{ℕ, ◌+◌, ◌≤◌, ◌<◌, ◌≡◌, ◌≢◌, ◌⊎◌, List, [], ◌∷◌, length, Bool, true, false}
+use Rattle.std.specs.Prelude.{ℕ, ◌≤◌, ◌<◌, ◌≡◌, ◌≢◌, List, ◌∷◌, length, true}
 use Rattle.std.specs.declared.option.Option.TheVariants.{Some}
-use Rattle.trace_format.specs.Before.{known_of, how_many}
-use Rattle.trace_format.specs.declared.limits.TheConstants.{MOST_BYTES, MOST_LINE_BYTES}
+use Rattle.trace_format.specs.Before.{known_of}
+use Rattle.trace_format.specs.declared.limits.TheConstants.{MOST_LINE_BYTES}
 use Rattle.trace_format.specs.Said.{Said}
 use Rattle.trace_format.specs.Spelling.{Spells}
 use Rattle.trace_format.specs.Table.{first_broken}
-use Rattle.line_text.specs.Text.{fields, lines}
-use Rattle.trace_format.specs.Trace.{Begins}
-use Rattle.trace_format.specs.Words.{word_text, word_said, arity, stage_of, may_come, is_over}
+use Rattle.line_text.specs.Language as first
+use Rattle.line_text.specs.Language.{Refusals}
+use Rattle.line_text.specs.Text.{fields}
+use Rattle.trace_format.specs.Trace.{traces}
+use Rattle.trace_format.specs.Words.{word_text, word_said, arity, stage_of, may_come}
 use Rattle.trace_format.specs.declared.refused.TraceRefused.{TraceRefused}
 use Rattle.trace_format.specs.declared.refused.WhyRefused.{WhyRefused}
 use Rattle.trace_format.specs.declared.refused.WhyRefused.TheVariants as why
@@ -52,33 +54,22 @@ IsBad before line why.Fields = (length line ≤ MOST_LINE_BYTES) × IsMiscounted
 IsBad before line why.Field = (length line ≤ MOST_LINE_BYTES) × IsMisformed (stage_of before) (fields line)
 IsBad before line rule = (length line ≤ MOST_LINE_BYTES) × IsRefused before (fields line) rule
 
--- what stands behind the last line end: nothing may, behind `end`, and a line that isn't ended, before it
-abbrev pub LastBreaks : Bool → List ℕ → WhyRefused → Type 0
-LastBreaks true last rule = (last ≢ []) × (rule ≡ why.After)
-LastBreaks false last rule = rule ≡ why.Ending
+-- the names of the rules of all languages, beside those that a line breaks, and a fault's line with its rule
+abbrev pub refusals_by : {S : Type 0} → (IsFaulty : (before : List S) → (line : List ℕ) → WhyRefused → Type 0) → Refusals S WhyRefused TraceRefused
+refusals_by IsFaulty = record {
+  IsBad = IsFaulty;
+  too_long = why.TooLong;
+  after = why.After;
+  ending = why.Ending;
+  fault_at = λ line rule. record { line = line; why = rule };
+}
 
-abbrev pub LineBreaks : Bool → List Said → List ℕ → WhyRefused → Type 0
-LineBreaks true before line rule = rule ≡ why.After
-LineBreaks false before line rule = IsBad before line rule
-
--- the first of these parts breaks this rule first
-abbrev pub RestBreaks : List Said → List (List ℕ) → WhyRefused → Type 0
-RestBreaks before [] rule = ⊥
-RestBreaks before (last ∷ []) rule = LastBreaks (is_over (stage_of before)) last rule
-RestBreaks before (line ∷ next ∷ more) rule = LineBreaks (is_over (stage_of before)) before line rule
-
--- the lines before the fault break no rule, and its line does
-pub record HasFault (text : List ℕ) (fault : TraceRefused) : Type 0 where
-  pub fits : length text ≤ MOST_BYTES
-  pub before : List Said
-  pub rest : List (List ℕ)
-  pub lines_say : Begins (lines text) before rest
-  pub line_is : fault.line ≡ how_many before + 1
-  pub breaks : RestBreaks before rest fault.why
+abbrev pub refusals : Refusals Said WhyRefused TraceRefused
+refusals = refusals_by IsBad
 
 abbrev pub too_long : TraceRefused
 too_long = record { line = 0; why = why.TooLong }
 
 -- a text with more bytes than a trace may have, or with a first faulty line
 abbrev pub IsFault : List ℕ → TraceRefused → Type 0
-IsFault text fault = ((MOST_BYTES < length text) × (fault ≡ too_long)) ⊎ HasFault text fault
+IsFault text fault = first.IsFault traces refusals text fault

@@ -1,11 +1,9 @@
 -- A line `fwd NAME NUMBER` at the beginning of a text. No public clause cites this module.
-use Rattle.std.specs.Prelude.{ℕ, ◌≡◌, ◌≤◌, ◌+◌, ◌<◌, List, ◌∷◌, ◌++◌, length}
+use Rattle.std.specs.Prelude.{ℕ, ◌≡◌, ◌≤◌, List, ◌∷◌, ◌++◌, length}
 use Rattle.std.specs.Fmt.{decimal}
-use Rattle.trace_format.specs.Before.{Known}
-use Rattle.trace_format.specs.Reading.{read_lines}
 use Rattle.trace_format.specs.Said as said
 use Rattle.trace_format.specs.Spelling.{IsName, Spells}
-use Rattle.line_text.specs.Text.{HasCut, fields, lines}
+use Rattle.line_text.specs.Text.{HasCut, fields}
 use Rattle.trace_format.specs.declared.limits.TheConstants.{MOST_NUMBER, MOST_LINE_BYTES}
 
 -- a name and a space, and then this
@@ -25,9 +23,3 @@ pub record BeginsForward (text name : List ℕ) (packet : ℕ) (after : List ℕ
   pub cut : HasCut 10 text line after
   pub short : length line ≤ MOST_LINE_BYTES
   pub spelled : Spells (said.Fwd name packet) (fields line)
-
--- one more line of a text was read, and this stands behind it
-pub record IsNext (known new : Known) (text after : List ℕ) : Type 0 where
-  pub goes : read_lines known (lines text) ≡ read_lines new (lines after)
-  pub shorter : length after < length text
-  pub one : new.read ≡ known.read + 1

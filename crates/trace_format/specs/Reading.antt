@@ -14,14 +14,16 @@ use Rattle.spie_base.specs.declared.types.Rules.{Rules}
 use Rattle.spie_base.specs.declared.types.TheConstants.{K_MOST, N_LEAST}
 use Rattle.topology.specs.Layout.{with_router, with_link}
 use Rattle.trace_format.specs.Before.{Known, known_of, no_rules, number_of, whats, added}
-use Rattle.trace_format.specs.Fault.{too_long}
+use Rattle.trace_format.specs.Fault.{refusals}
 use Rattle.trace_format.specs.Limits.{most_digits}
 use Rattle.trace_format.specs.declared.limits.TheConstants.{VERSION_1_N_MOST, MOST_BYTES, MOST_LINE_BYTES, MOST_TIME, MOST_NUMBER}
 use Rattle.trace_format.specs.Outcomes.{◌>>=◌}
 use Rattle.trace_format.specs.Said.{Said}
 use Rattle.trace_format.specs.Said as said
 use Rattle.trace_format.specs.Table.{first_broken}
-use Rattle.line_text.specs.Text.{fields, lines}
+use Rattle.line_text.specs.Reading as texts
+use Rattle.line_text.specs.Reading.{Reader}
+use Rattle.line_text.specs.Text.{fields}
 use Rattle.trace_format.specs.Text.{is_name}
 use Rattle.trace_format.specs.Trace.{trace_of}
 use Rattle.trace_format.specs.Words.{word_text, may_come, is_over}
@@ -278,27 +280,24 @@ by_fields known (w ∷ rest) = by_word known (word_of w) rest
 unfoldable pub read_line : Known → List ℕ → Result Known WhyRefused
 read_line known text = if nat_lt MOST_LINE_BYTES (length text) then Err why.Length else by_fields known (fields text)
 
-abbrev pub refused : Known → WhyRefused → TraceRefused
-refused known why = record { line = known.read + 1; why = why }
+-- what is known of a trace's lines, and how one more is read
+abbrev pub reader : Reader Said Known WhyRefused Trace
+reader = record {
+  known_of = known_of;
+  is_over = λ known. is_over known.stage;
+  count = λ known. known.read;
+  read_line = read_line;
+  value_of = trace_of;
+}
 
-abbrev pub then_read : Known → Result Known WhyRefused → (Known → Result Known TraceRefused) → Result Known TraceRefused
-then_read known (Ok new) more = more new
-then_read known (Err why) more = Err (refused known why)
+-- one more line of a text was read, and this stands behind it
+abbrev pub IsNext : (known new : Known) (text after : List ℕ) → Type 0
+IsNext known new text after = texts.IsNext reader known new text after
 
--- behind the last line nothing stands
+-- one line after another
 unfoldable pub read_lines : Known → List (List ℕ) → Result Known TraceRefused
-read_lines known [] = Err (refused known why.Ending)
-read_lines known (last ∷ []) = if is_over known.stage then (if length last == 0 then Ok known else Err (refused known why.After)) else Err (refused known why.Ending)
-read_lines known (text ∷ next ∷ more) = if is_over known.stage then Err (refused known why.After) else then_read known (read_line known text) (λ new. read_lines new (next ∷ more))
-
--- the whole text
-unfoldable pub known_in : List ℕ → Result Known TraceRefused
-known_in text = if nat_lt MOST_BYTES (length text) then Err too_long else read_lines (known_of []) (lines text)
-
-abbrev pub trace_by : Result Known TraceRefused → Result Trace TraceRefused
-trace_by (Ok known) = Ok (trace_of known)
-trace_by (Err fault) = Err fault
+read_lines known parts = texts.read_lines refusals reader known parts
 
 -- the trace that a text is, or its fault
 unfoldable pub read_of : List ℕ → Result Trace TraceRefused
-read_of text = trace_by (known_in text)
+read_of text = texts.read_text refusals reader MOST_BYTES text

@@ -1,9 +1,10 @@
 ghost use Rattle.std.specs.Prelude.{◌≡◌, ◌∷◌, [], ◌<◌, ◌^◌, length, IfOk, IfErr, IfSome, IfNone, Ok, Err, true};
 ghost use Rattle.trace_format.specs.Before.{known_of};
 ghost use Rattle.trace_format.specs.Fault.{IsFault};
-ghost use Rattle.trace_format.specs.ForwardLine.{BeginsForward, IsNext};
+ghost use Rattle.trace_format.specs.ForwardLine.{BeginsForward};
 ghost use Rattle.trace_format.specs.Outcomes.{Ends, Reads, IsReadAs, RefusedWith};
 ghost use Rattle.trace_format.specs.Reading as reading;
+ghost use Rattle.trace_format.specs.Reading.{IsNext};
 ghost use Rattle.trace_format.specs.Sound.{IsSound};
 ghost use Rattle.line_text.specs.Text.{IsUncut, lines};
 ghost use Rattle.trace_format.specs.Trace.{IsTrace};
@@ -23,7 +24,7 @@ use line_text::cut;
 use std::alloc::Global;
 
 // What stands behind the last line end.
-#[tactic(auto, unfolding(crate::specs::Reading::read_lines))]
+#[tactic(auto, unfolding(crate::specs::Reading::read_lines, line_text::specs::Reading::read_lines))]
 fn ended(draft: &Draft, last: &[u8]) -> Result<(), ReadTraceRefused>
     requires { draft.now.read < 2 ^ 41 }
     ensures { Reads (λ _. draft.now) result (reading.read_lines draft.now (last.now ∷ [])) }
@@ -126,7 +127,7 @@ fn read_lines(alloc: Global, text: &[u8]) -> Result<Draft, ReadTraceRefused>
     Ok(draft)
 }
 
-#[tactic(auto, unfolding(crate::specs::Reading::read_of, crate::specs::Reading::known_in))]
+#[tactic(auto, unfolding(crate::specs::Reading::read_of, crate::specs::Reading::read_lines))]
 fn read_text(alloc: Global, text: &[u8]) -> Result<Trace, ReadTraceRefused>
     ensures { Reads (λ trace. trace) result (reading.read_of text.now) }
 {

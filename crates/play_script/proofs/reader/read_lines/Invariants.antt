@@ -1,14 +1,17 @@
-use Rattle.std.proofs.Common.{◌≡◌, ◌≤◌, ◌+◌, [], length}
-use Rattle.play_script.specs.Before.{known_of}
-use Rattle.play_script.specs.Reading.{read_lines}
+use Rattle.std.proofs.Common.{◌≡◌, ◌≤◌, [], length}
+use Rattle.line_text.specs.Reading.{IsReached}
 use Rattle.line_text.specs.Text.{lines}
+use Rattle.play_script.specs.Before.{known_of}
+use Rattle.play_script.specs.Reading.{reader, read_lines}
+use Rattle.play_script.specs.Script.{scripts}
 use Rattle.play_script.proofs.reader.read_lines.Given as goal
 
 -- what is read of the rest from here on is what is read of all
 abbrev pub invariant-loop-front : goal.invariant-loop-front
 invariant-loop-front l = record {
+  reached : IsReached scripts reader l.text l.rest l.draft;
   goes : read_lines l.draft (lines l.rest) ≡ read_lines (known_of []) (lines l.text);
-  short : l.draft.read + length l.rest ≤ length l.text;
+  short : l.draft.read ≤ length l.text;
 }
 
 abbrev pub decreases-loop-front : goal.decreases-loop-front
