@@ -1,3 +1,4 @@
 mod floods;
+mod nets;
 mod regions;
 mod topologies;

@@ -19,6 +19,11 @@ pub sorted_none : {K : Type 0} (c : K → K → Ordering) → IsStrictlySortedBy
 unfolding IsStrictlySortedBy
 sorted_none c = tt
 
+-- one item
+pub sorted_one : {K : Type 0} (c : K → K → Ordering) (x : K) → IsStrictlySortedBy c (x ∷ [])
+unfolding IsStrictlySortedBy
+sorted_one c x = (tt, tt)
+
 -- one ascending list after another, where each item of the first is below each of the second
 pub sorted_append : {K : Type 0} (c : K → K → Ordering) (xs ys : List K) → IsStrictlySortedBy c xs → IsStrictlySortedBy c ys → ((x y : K) → Contains xs x → Contains ys y → c x y ≡ Less) → IsStrictlySortedBy c (xs ++ ys)
 unfolding IsStrictlySortedBy

@@ -1,12 +1,13 @@
 pub mod Ascents
 pub mod Orders
-pub mod Queues
 pub mod RowFacts
+pub mod CellFacts
+pub mod LeadFacts
+pub mod AskFacts
 pub mod StepFacts
 pub mod Worklists
-pub mod FoundFacts
 pub mod OriginFacts
-pub mod OrderFacts
 pub mod WayFacts
+pub mod ToldFacts
 pub mod PartFacts
 pub mod Unique

@@ -11,8 +11,7 @@ use Rattle.spie_base.specs.declared.Sig.{Sig}
 use Rattle.spie_base.specs.Order.{sig_cmp}
 use Rattle.topology.specs.declared.limits.TheConstants.{ROUTERS_MOST}
 use Rattle.reverse_flood.specs.declared.graphs.Node.{Node}
-use Rattle.reverse_flood.specs.Rows.{AreRows, KeepsRows, cell_in, cell_of, has_pair}
-use Rattle.reverse_flood.specs.Wider.{node_eq}
+use Rattle.reverse_flood.specs.Rows.{AreRows, KeepsRows, cell_in, cell_of, node_eq}
 use Rattle.reverse_flood.proofs.Orders.{same_node, node_laws}
 
 equal_from : (o : Ordering) → is_eq o ≡ true → o ≡ Equal
@@ -65,25 +64,26 @@ rows_more sig row size old new at more rows = record {
       (more_at sig row old new more s);
 }
 
-flag_kept : (flags blank : List Bool) (router : ℕ) (o : Option ℕ) → ((k : ℕ) → o ≡ Some k → k + ROUTERS_MOST ≤ length flags) → router < ROUTERS_MOST → cell_in false (flags ++ blank) router o ≡ cell_in false flags router o
-flag_kept flags blank router None fit few = refl
-flag_kept flags blank router (Some k) fit few =
+cell_kept : {X : Type 0} (blank : X) (cells more : List X) (router : ℕ) (o : Option ℕ) → ((k : ℕ) → o ≡ Some k → k + ROUTERS_MOST ≤ length cells) → router < ROUTERS_MOST → cell_in blank (cells ++ more) router o ≡ cell_in blank cells router o
+cell_kept blank cells more router None fit few = refl
+cell_kept blank cells more router (Some k) fit few =
     let l = fit k refl in
-    get_or_append_left flags blank false (k + router) (omega (arith, l, few))
+    get_or_append_left cells more blank (k + router) (omega (arith, l, few))
 
 -- an empty row changes nothing of the pairs
-pub rows_same : (sig : Sig) (row : ℕ) (old new : Sig → Option ℕ) (flags : List Bool) → row ≡ length flags → old sig ≡ None → ((q : Sig) → new q ≡ cond (is_at (sig_cmp sig) q) (Some row) (old q)) → AreRows old (length flags) → (n : Node) → n.router.number < ROUTERS_MOST → has_pair new (flags ++ replicate ROUTERS_MOST false) n ≡ has_pair old flags n
-rows_same sig row old new flags at none more rows n few =
+pub rows_same : {X : Type 0} (blank : X) (sig : Sig) (row : ℕ) (old new : Sig → Option ℕ) (cells : List X) → row ≡ length cells → old sig ≡ None → ((q : Sig) → new q ≡ cond (is_at (sig_cmp sig) q) (Some row) (old q)) → AreRows old (length cells) → (n : Node) → n.router.number < ROUTERS_MOST → cell_of blank new (cells ++ replicate ROUTERS_MOST blank) n ≡ cell_of blank old cells n
+rows_same {X} blank sig row old new cells at none more rows n few =
     let r = n.router.number in
+    let longer : List X = cells ++ replicate ROUTERS_MOST blank in
     ⊎_elim
     (λ i.
     let P : Sig → Type 0 = λ s. old s ≡ None in
-    ap (cell_in false (flags ++ replicate ROUTERS_MOST false) r) i.1
-    ∙ ap (λ k. get_or (flags ++ replicate ROUTERS_MOST false) (k + r) false) at
-    ∙ get_or-append-add flags (replicate ROUTERS_MOST false) r false
-    ∙ get_or-replicate ROUTERS_MOST r false false few
-    ∙ sym (ap (cell_in false flags r) (subst P i.0 none)))
-    (λ o. ap (cell_in false (flags ++ replicate ROUTERS_MOST false) r) o ∙ flag_kept flags (replicate ROUTERS_MOST false) r (old n.sig) (λ k e. rows.fit n.sig k e) few)
+    ap (cell_in blank longer r) i.1
+    ∙ ap (λ k. get_or longer (k + r) blank) at
+    ∙ get_or-append-add cells (replicate ROUTERS_MOST blank) r blank
+    ∙ get_or-replicate ROUTERS_MOST r blank blank few
+    ∙ sym (ap (cell_in blank cells r) (subst P i.0 none)))
+    (λ o. ap (cell_in blank longer r) o ∙ cell_kept blank cells (replicate ROUTERS_MOST blank) r (old n.sig) (λ k e. rows.fit n.sig k e) few)
     (more_at sig row old new more n.sig)
 
 -- a row that is new takes none away
@@ -126,15 +126,3 @@ cell_more {X} blank v rows cells row node are is few n small =
           other (rows n.sig) refl
     ] in
     by (node_eq node n) refl
-
--- one more pair
-pub flag_more : (rows : Sig → Option ℕ) (flags : List Bool) (row : ℕ) (node : Node) → AreRows rows (length flags) → rows node.sig ≡ Some row → node.router.number < ROUTERS_MOST → (n : Node) → n.router.number < ROUTERS_MOST → has_pair rows (set flags (row + node.router.number) true) n ≡ cond (node_eq node n) true (has_pair rows flags n)
-flag_more rows flags row node are is few n small = cell_more false true rows flags row node are is few n small
-
--- cells that are all blank
-pub cell_blank : {X : Type 0} (rows : Sig → Option ℕ) (size : ℕ) (blank : X) (n : Node) → n.router.number < ROUTERS_MOST → AreRows rows size → cell_of blank rows (replicate size blank) n ≡ blank
-cell_blank {X} rows size blank n few are = by (rows n.sig) refl
-  where
-    by : (o : Option ℕ) → rows n.sig ≡ o → cell_in blank (replicate size blank) n.router.number o ≡ blank
-    by None e = refl
-    by (Some k) e = let l = are.fit n.sig k e in get_or-replicate size (k + n.router.number) blank blank (omega (arith, l, few))

@@ -1,11 +1,13 @@
 -- Rows of cells, one row for each signature and in it one cell for each router.
-use Rattle.std.specs.Prelude.{◌≡◌, ℕ, ◌+◌, ◌≤◌, ◌⊎◌, Bool, false, List, Option, None, Some, slice_index_or}
+use Rattle.std.specs.Prelude.{◌≡◌, ℕ, ◌+◌, ◌≤◌, ◌⊎◌, ◌==◌, ◌&&◌, Bool, List, Option, None, Some, slice_index_or}
+use Rattle.std.specs.Str.{bytes_eq}
 use Rattle.spie_base.specs.declared.Sig.{Sig}
-use Rattle.std.specs.BTreeMap.{get}
-use Rattle.spie_base.specs.Order.{sig_cmp}
 use Rattle.topology.specs.declared.limits.TheConstants.{ROUTERS_MOST}
 use Rattle.reverse_flood.specs.declared.graphs.Node.{Node}
-use Rattle.reverse_flood.specs.declared.pairs.Pairs.{Pairs}
+
+-- what `==` says of two pairs
+abbrev pub node_eq : Node → Node → Bool
+node_eq a b = (a.router.number == b.router.number) && bytes_eq a.sig.bytes b.sig.bytes
 
 -- the cell of a router in a row, and a blank where there is no row
 abbrev pub cell_in : {X : Type 0} → (blank : X) → List X → ℕ → Option ℕ → X
@@ -16,10 +18,6 @@ cell_in blank cells router (Some row) = slice_index_or cells (row + router) blan
 abbrev pub cell_of : {X : Type 0} → (blank : X) → (Sig → Option ℕ) → List X → Node → X
 cell_of blank rows cells n = cell_in blank cells n.router.number (rows n.sig)
 
--- whether a pair is in the set
-abbrev pub has_pair : (Sig → Option ℕ) → List Bool → Node → Bool
-has_pair rows flags n = cell_of false rows flags n
-
 -- rows of a cell for each router, each of one signature
 pub record AreRows (rows : Sig → Option ℕ) (size : ℕ) : Type 0 where
   pub fit : (s : Sig) (row : ℕ) → rows s ≡ Some row → row + ROUTERS_MOST ≤ size
@@ -28,7 +26,3 @@ pub record AreRows (rows : Sig → Option ℕ) (size : ℕ) : Type 0 where
 -- a signature that has a row keeps it
 abbrev pub KeepsRows : (before after : Sig → Option ℕ) → Type 0
 KeepsRows before after = (s : Sig) (row : ℕ) → before s ≡ Some row → after s ≡ Some row
-
--- whether a pair is in a set
-abbrev pub is_in : Pairs → Node → Bool
-is_in p n = has_pair (get sig_cmp p.rows) p.flags.items n

@@ -1,99 +1,83 @@
 // Which pairs are asked, and which of them are hit.
-ghost use Rattle.std.specs.Prelude.{◌≡◌, ◌<◌, ◌≤◌, ◌++◌, ◌∷◌, ◌↔◌, [], Some, cond, filter, length, IfOk, OnOk};
-ghost use Rattle.std.specs.BTreeMap.{get};
-ghost use Rattle.std.specs.List.{Contains};
-ghost use Rattle.spie_base.specs.Order.{sig_cmp};
-ghost use Rattle.reverse_flood.specs.Flood.{net_of, is_within, IsAsked};
-ghost use Rattle.reverse_flood.specs.Found.{nodes_found, AreFound};
-ghost use Rattle.reverse_flood.specs.Queue.{nodes_of, IsQueue};
-ghost use Rattle.reverse_flood.specs.Wider.{IsVisited};
-ghost use Rattle.reverse_flood.specs.declared.graphs.Node.{Node};
+ghost use Rattle.std.specs.Prelude.{◌≡◌, ◌<◌, ◌≤◌, [], length, slice_index_or, None, OnOk};
+ghost use Rattle.reverse_flood.specs.Flood.{net_of, is_within};
+ghost use Rattle.reverse_flood.specs.Leads.{AreLeads, Asks, GoesOn, IsLead, KeepsNames};
+ghost use Rattle.reverse_flood.specs.Search.{IsFine};
 
-use crate::Node;
-use crate::asked::{Asked, Entry, add_each, add_steps, at, none_asked};
-use spie_base::{List, NoMemory, Sig, Sighting};
+use crate::cells::{Search, note_found, note_unseen};
+use crate::leads::{Lead, Leads, add_steps};
+use spie_base::{NoMemory, Sighting};
 use std::alloc::Global;
 use topology::{ROUTERS_MOST, Topology, topology_is_sound};
 
-/// A pair that was asked and is hit, and its origins.
-#[derive(Drop)]
-pub(crate) struct Found {
-    pub(crate) entry: Entry,
-    pub(crate) origins: List<Sig>,
-}
-
-/// The pairs that were asked, each once, and those that are hit, in the order in which they were asked.
-#[derive(Drop)]
-pub(crate) struct Search {
-    pub(crate) asked: Asked,
-    pub(crate) found: Vec<Found>,
-}
-
-/// Asks a pair. If it is hit, notes its origins, and adds the pairs inside one step back from it.
+/// Asks a pair. If it is hit, names the pairs inside one step back from it.
 fn ask_one<S: Sighting>(
     alloc: Global,
     topology: &Topology,
     sights: &[S],
-    within: Option<u32>,
-    asked: &mut Asked,
-    found: &mut Vec<Found>,
-    entry: Entry,
+    bound: Option<u32>,
+    lane: Option<u32>,
+    search: &mut Search,
+    leads: &mut Leads,
+    lead: Lead,
 ) -> Result<(), NoMemory>
     requires sights { length sights.now ≡ length topology.now.names }
-    requires exists { entry.node.router.number < length topology.now.names }
     requires few { length topology.now.names ≤ ROUTERS_MOST }
-    requires exist { (n : Node) → Contains (nodes_of asked.old.queue.items) n → n.router.number < length topology.now.names }
-    requires fine { IsQueue asked.old }
-    requires known { get sig_cmp asked.old.pairs.rows entry.node.sig ≡ Some entry.row }
-    requires each { AreFound (net_of S.shown sights.now topology.now) (get sig_cmp asked.old.pairs.rows) found.old.items }
-    ensures fine { OnOk result (IsQueue asked.new) }
-    ensures visited { OnOk result (IsVisited (net_of S.shown sights.now topology.now) (is_within topology.now within) (nodes_of asked.old.queue.items) entry.node (nodes_of asked.new.queue.items)) }
-    ensures found { OnOk result (nodes_found found.new.items ≡ nodes_found found.old.items ++ cond ((net_of S.shown sights.now topology.now).hit entry.node) (entry.node ∷ []) []) }
-    ensures each { OnOk result (AreFound (net_of S.shown sights.now topology.now) (get sig_cmp asked.new.pairs.rows) found.new.items) }
-    ensures exist { OnOk result ((n : Node) → Contains (nodes_of asked.new.queue.items) n → n.router.number < length topology.now.names) }
+    requires fine { IsFine search.old }
+    requires lead { IsLead topology.now search.old lead }
+    ensures { OnOk result (Asks lane (net_of S.shown sights.now topology.now) topology.now
+        (is_within topology.now bound) lead.node search.old search.new leads.old leads.new) }
 {
-    let sight = &sights[entry.node.router.number as usize];
-    if sight.hit(&entry.node.sig) {
-        let origins = sight.origins(alloc, &entry.node.sig)?;
-        let near = topology.linked(entry.node.router);
-        add_steps(asked, topology, within, near, &entry, &origins)?;
-        found.push(Found {
-            entry,
-            origins: List::of(origins),
-        })?;
+    let sight = &sights[lead.node.router.number as usize];
+    if sight.hit(&lead.node.sig) {
+        let origins = sight.origins(alloc, &lead.node.sig)?;
+        let near = topology.linked(lead.node.router);
+        add_steps(search, leads, topology, bound, lane, near, &lead, &origins)?;
+        note_found(search, lead.row, &lead.node, origins)?;
+    } else {
+        note_unseen(search, lead.row, &lead.node);
     }
     Ok(())
 }
 
-/// All pairs that a flood from some entries asks. Each pair's `hit` is asked once, and the `origins` of
-/// each that is hit.
-pub(crate) fn ask<S: Sighting>(
+// The lead at a place.
+fn lead_at(leads: &Leads, place: usize) -> Lead
+    requires { place < length leads.now.home.items }
+    ensures { result ≡ slice_index_or leads.now.home.items place result }
+{
+    leads.home[place]
+}
+
+/// Asks the pairs at home, and those that are named by that and are at home: the routers within `lane`. Pairs beyond
+/// `bound` are not named.
+pub(crate) fn follow<S: Sighting>(
     alloc: Global,
     topology: &Topology,
     sights: &[S],
-    within: Option<u32>,
-    entries: &[Node],
-) -> Result<Search, NoMemory>
+    bound: Option<u32>,
+    lane: Option<u32>,
+    search: &mut Search,
+    leads: &mut Leads,
+) -> Result<(), NoMemory>
     requires sights { length sights.now ≡ length topology.now.names }
-    requires exist { (n : Node) → Contains entries.now n → n.router.number < length topology.now.names }
-    ensures asked { IfOk result (λ s. (n : Node) → Contains (nodes_of s.asked.queue.items) n ↔ IsAsked (net_of S.shown sights.now topology.now) (is_within topology.now within) entries.now n) }
-    ensures found { IfOk result (λ s. nodes_found s.found.items ≡ filter (net_of S.shown sights.now topology.now).hit (nodes_of s.asked.queue.items)) }
-    ensures each { IfOk result (λ s. AreFound (net_of S.shown sights.now topology.now) (get sig_cmp s.asked.pairs.rows) s.found.items) }
-    ensures fine { IfOk result (λ s. IsQueue s.asked) }
-    ensures few { OnOk result (length topology.now.names ≤ ROUTERS_MOST) }
-    ensures exist { IfOk result (λ s. (n : Node) → Contains (nodes_of s.asked.queue.items) n → n.router.number < length topology.now.names) }
+    requires fine { IsFine search.old }
+    requires home { AreLeads topology.now search.old leads.old.home.items }
+    requires away { AreLeads topology.now search.old leads.old.away.items }
+    ensures fine { OnOk result (IsFine search.new) }
+    ensures kept { OnOk result (KeepsNames search.old search.new) }
+    ensures home { OnOk result (leads.new.home.items ≡ []) }
+    ensures away { OnOk result (AreLeads topology.now search.new leads.new.away.items) }
+    ensures stays { OnOk result (lane ≡ None → leads.new.away.items ≡ leads.old.away.items) }
+    ensures under_way { OnOk result (GoesOn (net_of S.shown sights.now topology.now)
+        (is_within topology.now bound) search.old search.new leads.old leads.new) }
 {
     topology_is_sound(topology);
-    let mut asked = none_asked(alloc);
-    let mut found = Vec::new(alloc);
-    add_each(&mut asked, entries)?;
     let mut next = 0;
-    while next < asked.queue.len() {
-        let entry = at(&asked, next);
-        ask_one(
-            alloc, topology, sights, within, &mut asked, &mut found, entry,
-        )?;
+    while next < leads.home.len() {
+        let lead = lead_at(leads, next);
+        ask_one(alloc, topology, sights, bound, lane, search, leads, lead)?;
         next += 1;
     }
-    Ok(Search { asked, found })
+    leads.home.clear();
+    Ok(())
 }

@@ -1,5 +1,1 @@
-pub mod PairFacts
-pub mod EntryFacts
 pub mod RoundFacts
-pub mod JoinFacts
-pub mod TraceFacts

@@ -1,74 +1,54 @@
--- Rounds: which regions were asked for what.
-use Rattle.std.proofs.Common.{◌≡◌, ℕ, ◌+◌, ◌<◌, ⊎_elim, true, List, [], ◌∷◌, ◌++◌, length, slice_index, append-nil, eq-eqb, ◌≢◌, refl, sym, subst, arith}
-use Rattle.std.specs.List.{Contains}
-use Rattle.std.proofs.lemmas.Bool.{cases_eq}
+-- The leads of a round, region by region.
+use Rattle.std.proofs.Common.{◌≡◌, ◌∙◌, ℕ, ◌+◌, ◌<◌, ◌≤◌, ◌⊎◌, inl, inr, ⊎_elim, true, Bool, List, [], ◌∷◌, ◌++◌, length, map, slice_index, append-nil, eq-eqb, refl, sym, subst, ap, arith}
+use Rattle.std.specs.Prelude.{nat_le, ◌==◌}
+use Rattle.std.specs.List.{Contains, filter}
+use Rattle.std.proofs.lemmas.Bool.{cases_eq, eqb-true, le-leb, leb-true}
 use Rattle.std.proofs.lemmas.List.Elements.{Contains-append_left, Contains-append_right, Contains-append_cases}
-use Rattle.spie_base.proofs.Membership.{has_none, has_first, has_one, from_filter, into_filter}
+use Rattle.spie_base.proofs.Membership.{has_none, from_filter, into_filter, from_map, into_map}
 use Rattle.topology.specs.Layout.{Layout}
 use Rattle.reverse_flood.specs.declared.graphs.Node.{Node}
-use Rattle.reverse_flood.specs.Flood.{Net, in_region}
-use Rattle.regional_agent.specs.declared.answers.RegionAnswer.{RegionAnswer}
-use Rattle.regional_agent.specs.Answers.{IsAnswer}
-use Rattle.traceback_manager.specs.Rounds.{batch, IsAnswerOf, IsAskedIn, AreAnswersBelow, AreAnswersOf, AsksRegion}
+use Rattle.reverse_flood.specs.declared.leads.Lead.{Lead}
+use Rattle.reverse_flood.specs.Leads.{nodes_of}
+use Rattle.traceback_manager.specs.Rounds.{batch, later, region_of}
+
+-- a pair of leads
+abbrev pub node_of : Lead → Node
+node_of l = l.node
+
+pub of_batch : (layout : Layout) (region : ℕ) (leads : List Lead) (l : Lead) → Contains (batch layout region leads) l → Contains leads l × (region_of layout l ≡ region)
+of_batch layout region leads l h =
+    let f = from_filter (λ (x : Lead). region_of layout x == region) leads l h in (f.0, eqb-true (region_of layout l) region f.1)
+
+-- the leads from a region on lie in it, or from the next one on
+pub later_cases : (layout : Layout) (region : ℕ) (leads : List Lead) (n : Node) → Contains (nodes_of (later layout region leads)) n → Contains (nodes_of (batch layout region leads)) n ⊎ Contains (nodes_of (later layout (region + 1) leads)) n
+later_cases layout region leads n h =
+    let i = from_map node_of (later layout region leads) n h in
+    let l = i.of in
+    let f = from_filter (λ (x : Lead). nat_le region (region_of layout x)) leads l i.has in
+    let low = leb-true region (region_of layout l) f.1 in
+    let Batch : Node → Type 0 = λ m. Contains (nodes_of (batch layout region leads)) m in
+    let Later : Node → Type 0 = λ m. Contains (nodes_of (later layout (region + 1) leads)) m in
+    ⊎_elim
+    (λ (e : region_of layout l ≡ region). inl (subst Batch i.is (into_map node_of (batch layout region leads) l (into_filter (λ (x : Lead). region_of layout x == region) leads l f.0 (eq-eqb (region_of layout l) region e)))))
+    (λ differ. inr (subst Later i.is (into_map node_of (later layout (region + 1) leads) l (into_filter (λ (x : Lead). nat_le (region + 1) (region_of layout x)) leads l f.0 (le-leb (region + 1) (region_of layout l) (omega (arith, low, differ)))))))
+    (cases_eq (region_of layout l) region)
+
+-- all lie from region 0 on, and none beyond the last
+pub later_all : (layout : Layout) (leads : List Lead) (n : Node) → Contains (nodes_of leads) n → Contains (nodes_of (later layout 0 leads)) n
+later_all layout leads n h =
+    let i = from_map node_of leads n h in
+    let Later : Node → Type 0 = λ m. Contains (nodes_of (later layout 0 leads)) m in
+    subst Later i.is (into_map node_of (later layout 0 leads) i.of (into_filter (λ (x : Lead). nat_le 0 (region_of layout x)) leads i.of i.has (le-leb 0 (region_of layout i.of) (omega arith))))
+
+pub later_none : (layout : Layout) (regions : ℕ) (leads : List Lead) → ((l : Lead) → Contains leads l → region_of layout l < regions) → (n : Node) → Contains (nodes_of (later layout regions leads)) n → ⊥
+later_none layout regions leads below n h =
+    let i = from_map node_of (later layout regions leads) n h in
+    let f = from_filter (λ (x : Lead). nat_le regions (region_of layout x)) leads i.of i.has in
+    let low = leb-true regions (region_of layout i.of) f.1 in
+    let high = below i.of f.0 in
+    omega (arith, low, high)
 
 -- a list of no length has no items
 pub no_items : {X : Type 0} (xs : List X) → length xs ≡ 0 → xs ≡ []
 no_items [] e = refl
 no_items (x ∷ xs) e = absurd (omega (arith, e))
-
-pub in_batch : (layout : Layout) (region : ℕ) (entries : List Node) (n : Node) → Contains entries n → slice_index layout.regions n.router.number ≡ region → Contains (batch layout region entries) n
-in_batch layout region entries n h here =
-    into_filter (λ (m : Node). in_region layout region m.router.number) entries n h (eq-eqb (slice_index layout.regions n.router.number) region here)
-
-pub of_batch : (layout : Layout) (region : ℕ) (entries : List Node) (n : Node) → Contains (batch layout region entries) n → Contains entries n × (in_region layout region n.router.number ≡ true)
-of_batch layout region entries n h = from_filter (λ (m : Node). in_region layout region m.router.number) entries n h
-
-pub asked_left : (xs ys : List RegionAnswer) (n : Node) → IsAskedIn xs n → IsAskedIn (xs ++ ys) n
-asked_left xs ys n a = record { answer = a.answer; has = Contains-append_left xs ys a.answer a.has; entry = a.entry }
-
-pub asked_right : (xs ys : List RegionAnswer) (n : Node) → IsAskedIn ys n → IsAskedIn (xs ++ ys) n
-asked_right xs ys n a = record { answer = a.answer; has = Contains-append_right xs ys a.answer a.has; entry = a.entry }
-
--- no entry lies in the region
-pub asks_none : (net : Net) (layout : Layout) (region : ℕ) (entries : List Node) (before : List RegionAnswer) → batch layout region entries ≡ [] → AsksRegion net layout region entries before before
-asks_none net layout region entries before none = record {
-  more = [];
-  added = sym (append-nil before);
-  each = λ a h. absurd (has_none a h);
-  every = λ n h here. let P : List Node → Type 0 = λ l. Contains l n in absurd (has_none n (subst P none (in_batch layout region entries n h here)));
-}
-
--- some do, and it answers
-pub asks_one : (net : Net) (layout : Layout) (region : ℕ) (entries : List Node) (before after : List RegionAnswer) (a : RegionAnswer) → a.entries ≡ batch layout region entries → IsAnswer net layout a → after ≡ before ++ a ∷ [] → AsksRegion net layout region entries before after
-asks_one net layout region entries before after a asked is more = record {
-  more = a ∷ [];
-  added = more;
-  each = λ b h.
-      let P : RegionAnswer → Type 0 = λ x. IsAnswerOf net layout entries x in
-      subst P (has_one a b h) (record { is = is; asked = λ n e. let Q : List Node → Type 0 = λ l. Contains l n in (of_batch layout region entries n (subst Q asked e)).0 });
-  every = λ n h here. let Q : List Node → Type 0 = λ l. Contains l n in record { answer = a; has = has_first a []; entry = subst Q (sym asked) (in_batch layout region entries n h here) };
-}
-
-pub below_none : (net : Net) (layout : Layout) (entries : List Node) (bound : ℕ) (answers : List RegionAnswer) → bound ≡ 0 → answers ≡ [] → AreAnswersBelow bound net layout entries answers
-below_none net layout entries bound answers zero none = record {
-  each = λ a h. let P : List RegionAnswer → Type 0 = λ l. Contains l a in absurd (has_none a (subst P none h));
-  every = λ n h lt. absurd (omega (arith, lt, zero));
-}
-
--- one more region was asked
-pub below_next : (net : Net) (layout : Layout) (entries : List Node) (bound : ℕ) (before after : List RegionAnswer) → AreAnswersBelow bound net layout entries before → AsksRegion net layout bound entries before after → AreAnswersBelow (bound + 1) net layout entries after
-below_next net layout entries bound before after so_far asks =
-    let P : List RegionAnswer → Type 0 = λ l. AreAnswersBelow (bound + 1) net layout entries l in
-    subst P (sym asks.added) (record {
-      each = λ a h. ⊎_elim (so_far.each a) (asks.each a) (Contains-append_cases before asks.more a h);
-      every = λ n h lt.
-          let r = slice_index layout.regions n.router.number in
-          ⊎_elim
-          (λ (e : r ≡ bound). asked_right before asks.more n (asks.every n h e))
-          (λ (ne : r ≢ bound). let under : r < bound = omega (arith, lt, ne) in asked_left before asks.more n (so_far.every n h under))
-          (cases_eq r bound);
-    })
-
--- all were
-pub below_done : (net : Net) (layout : Layout) (entries : List Node) (bound : ℕ) (answers : List RegionAnswer) → AreAnswersBelow bound net layout entries answers → ((n : Node) → Contains entries n → slice_index layout.regions n.router.number < bound) → AreAnswersOf net layout entries answers
-below_done net layout entries bound answers is homes = record { each = is.each; every = λ n h. is.every n h (homes n h) }

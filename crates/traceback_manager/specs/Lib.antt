@@ -1,4 +1,1 @@
-pub mod Pairs
 pub mod Rounds
-pub mod Entries
-pub mod Joins

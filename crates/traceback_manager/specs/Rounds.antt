@@ -1,40 +1,32 @@
--- What one round asks, and what it is answered.
-use Rattle.std.specs.Prelude.{◌≡◌, ◌<◌, ℕ, List, ◌++◌, filter, slice_index}
-use Rattle.std.specs.List.{Contains}
+-- Which leads of a round a region is asked for. No public clause cites this module.
+use Rattle.std.specs.Prelude.{ℕ, ◌==◌, nat_le, List, ◌++◌, filter, slice_index}
 use Rattle.topology.specs.Layout.{Layout}
+use Rattle.reverse_flood.specs.declared.cells.Search.{Search}
 use Rattle.reverse_flood.specs.declared.graphs.Node.{Node}
-use Rattle.reverse_flood.specs.Flood.{Net, in_region}
-use Rattle.regional_agent.specs.declared.answers.RegionAnswer.{RegionAnswer}
-use Rattle.regional_agent.specs.Answers.{IsAnswer}
+use Rattle.reverse_flood.specs.declared.leads.Lead.{Lead}
+use Rattle.reverse_flood.specs.declared.leads.Leads.{Leads}
+use Rattle.reverse_flood.specs.Flood.{Net, everywhere}
+use Rattle.reverse_flood.specs.Leads.{nodes_of}
+use Rattle.reverse_flood.specs.Search.{IsUnderWay}
 
--- the entries that lie in a region
-abbrev pub batch : Layout → (region : ℕ) → List Node → List Node
-batch layout region entries = filter (λ n. in_region layout region n.router.number) entries
+abbrev pub region_of : Layout → Lead → ℕ
+region_of layout l = slice_index layout.regions l.node.router.number
 
--- a region's answer to some of the entries
-pub record IsAnswerOf (net : Net) (layout : Layout) (entries : List Node) (a : RegionAnswer) : Type 0 where
-  pub is : IsAnswer net layout a
-  pub asked : (n : Node) → Contains a.entries n → Contains entries n
+-- the leads that lie in a region
+abbrev pub batch : Layout → (region : ℕ) → List Lead → List Lead
+batch layout region leads = filter (λ l. region_of layout l == region) leads
 
--- one of the answers is to this entry
-pub record IsAskedIn (answers : List RegionAnswer) (n : Node) : Type 0 where
-  pub answer : RegionAnswer
-  pub has : Contains answers answer
-  pub entry : Contains answer.entries n
+-- those that lie in regions from a number on
+abbrev pub later : Layout → (region : ℕ) → List Lead → List Lead
+later layout region leads = filter (λ l. nat_le region (region_of layout l)) leads
 
--- all are answers to some of the entries, and to each entry whose region is below a bound there is one
-pub record AreAnswersBelow (bound : ℕ) (net : Net) (layout : Layout) (entries : List Node) (answers : List RegionAnswer) : Type 0 where
-  pub each : (a : RegionAnswer) → Contains answers a → IsAnswerOf net layout entries a
-  pub every : (n : Node) → Contains entries n → slice_index layout.regions n.router.number < bound → IsAskedIn answers n
+-- a region was asked for its leads of a round: whatever the search began with and what else waits, it is under way still
+abbrev pub AsksRegion : Net → Layout → (region : ℕ) → List Lead → (old new : Search) → (before after : Leads) → Type 0
+AsksRegion net layout region round old new before after =
+    (entries rest : List Node) → IsUnderWay net everywhere entries old (nodes_of (batch layout region round) ++ (nodes_of before.away.items ++ rest))
+    → IsUnderWay net everywhere entries new (nodes_of after.away.items ++ rest)
 
--- all are answers to some of the entries, and to each entry there is one
-pub record AreAnswersOf (net : Net) (layout : Layout) (entries : List Node) (answers : List RegionAnswer) : Type 0 where
-  pub each : (a : RegionAnswer) → Contains answers a → IsAnswerOf net layout entries a
-  pub every : (n : Node) → Contains entries n → IsAskedIn answers n
-
--- a region was asked for the entries that lie in it: what it answered stands behind the others
-pub record AsksRegion (net : Net) (layout : Layout) (region : ℕ) (entries : List Node) (before after : List RegionAnswer) : Type 0 where
-  pub more : List RegionAnswer
-  pub added : after ≡ before ++ more
-  pub each : (a : RegionAnswer) → Contains more a → IsAnswerOf net layout entries a
-  pub every : (n : Node) → Contains entries n → slice_index layout.regions n.router.number ≡ region → IsAskedIn more n
+-- and so were all regions
+abbrev pub AsksAll : Net → List Lead → (old new : Search) → (after : Leads) → Type 0
+AsksAll net round old new after =
+    (entries : List Node) → IsUnderWay net everywhere entries old (nodes_of round) → IsUnderWay net everywhere entries new (nodes_of after.away.items)

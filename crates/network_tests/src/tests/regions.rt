@@ -1,9 +1,7 @@
-ghost use Rattle.std.specs.Prelude.{◌≡◌};
-
-use super::floods::Recorder;
+use super::nets::{Recorder, at, edge, recorders, wired};
 use regional_agent::{RegionAnswer, answer_region, flood_region, lie_in};
-use reverse_flood::{Edge, Node, Part, flood, one_flood};
-use spie_base::{NoMemory, RouterId, Sig};
+use reverse_flood::{Node, Part, flood, one_flood};
+use spie_base::NoMemory;
 use std::alloc::Global;
 use std::test::Fail;
 use topology::Topology;
@@ -14,53 +12,14 @@ const ROUTERS: [(&[u8], &[u8]); 3] = [(b"a", b"r1"), (b"b", b"r2"), (b"c", b"r3"
 
 const LINKS: [(&[u8], &[u8]); 3] = [(b"a", b"b"), (b"b", b"c"), (b"c", b"a")];
 
-// The packet at a router.
-fn at(number: u32) -> Node
-    ensures { result.router.number ≡ number }
-{
-    let mut bytes = [0; 28];
-    bytes[0] = 7;
-    Node {
-        router: RouterId { number },
-        sig: Sig { bytes },
-    }
-}
-
-fn ring(alloc: Global) -> Result<Topology, Fail> {
-    let mut topology = Topology::new(alloc)?;
-    for (name, region) in ROUTERS {
-        topology
-            .add_router(alloc, name, region)
-            .ok()
-            .ok_or("router")?;
-    }
-    for (a, b) in LINKS {
-        topology.add_link(alloc, a, b).ok().ok_or("link")?;
-    }
-    Ok(topology)
-}
-
 // All three have recorded the packet.
-fn recorders(alloc: Global) -> Result<Vec<Recorder>, Fail> {
-    let mut sights = Vec::new(alloc);
-    for first in [7, 7, 7] {
-        sights.push(Recorder {
-            first,
-            missing: false,
-        })?;
-    }
-    Ok(sights)
-}
-
-fn edge(down: Node, up: Node) -> Edge {
-    Edge { down, up }
-}
+const RECORDERS: [(u8, bool); 3] = [(7, false), (7, false), (7, false)];
 
 #[test]
 fn ring_over_three_regions(rt: HostRuntime) -> Result<(), Fail> {
     let alloc = rt.alloc();
-    let topology = ring(alloc)?;
-    let sights = recorders(alloc)?;
+    let topology = wired(alloc, &ROUTERS, &LINKS)?;
+    let sights = recorders(alloc, &RECORDERS)?;
     if topology.routers() != 3 || sights.len() != 3 {
         assert!(rt; false, "routers");
         return Ok(());
@@ -121,8 +80,8 @@ fn flooded(
 #[test]
 fn answers_for_a_region(rt: HostRuntime) -> Result<(), Fail> {
     let alloc = rt.alloc();
-    let topology = ring(alloc)?;
-    let sights = recorders(alloc)?;
+    let topology = wired(alloc, &ROUTERS, &LINKS)?;
+    let sights = recorders(alloc, &RECORDERS)?;
     assert!(rt; flooded(alloc, &topology, &sights, 1, &[at(2)])?.is_none());
     let part = flooded(alloc, &topology, &sights, 2, &[at(2)])?.ok_or("home")?;
     assert_eq!(rt; part.nodes.items(), [at(2)].as_slice());

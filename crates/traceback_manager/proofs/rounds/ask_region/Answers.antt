@@ -1,28 +1,34 @@
-use Rattle.std.proofs.Common.{◌≡◌, ◌∙◌, sym, subst, List, length, slice_index, arith}
+use Rattle.std.proofs.Common.{◌≡◌, ◌++◌, List, subst, sym}
 use Rattle.std.specs.List.{Contains}
-use Rattle.std.specs.Vec.{vec_len}
-use Rattle.std.proofs.lemmas.Bool.{eqb-true}
-use Rattle.std.proofs.lemmas.Bool.Decides.{Decides-eqb}
+use Rattle.spie_base.proofs.Membership.{from_map}
+use Rattle.reverse_flood.specs.declared.leads.Lead.{Lead}
 use Rattle.reverse_flood.specs.declared.graphs.Node.{Node}
-use Rattle.reverse_flood.specs.Flood.{net_of}
-use Rattle.traceback_manager.proofs.RoundFacts.{of_batch, no_items, asks_none, asks_one}
+use Rattle.reverse_flood.specs.Flood.{net_of, everywhere}
+use Rattle.reverse_flood.specs.Leads.{nodes_of}
+use Rattle.reverse_flood.specs.Search.{IsUnderWay}
+use Rattle.regional_agent.specs.Answers.{IsHome}
+use Rattle.traceback_manager.proofs.RoundFacts.{node_of, of_batch}
 use Rattle.traceback_manager.proofs.rounds.ask_region.Goals as goal
 
-pub answer_region-requires-clause-home : goal.answer_region-requires-clause-home
-answer_region-requires-clause-home g c = λ n h.
-    let P : List Node → Type 0 = λ l. Contains l n in
-    let b = of_batch c.args.topology.now c.args.region c.args.entries.now n (subst P c.in_ok-home.ensures h) in
-    record { exists = c.requires.exist n b.0; here = eqb-true (slice_index c.args.topology.now.regions n.router.number) c.args.region b.1 }
+pub pick-requires-clause-exist : goal.pick-requires-clause-exist
+pick-requires-clause-exist g c = λ l h. (c.requires.round l h).exists
 
-pub returns-in_ok-push : goal.returns-in_ok-push
-returns-in_ok-push g c =
-    asks_one (net_of g.S.Sighting.shown c.args.sights.now c.args.topology.now) c.args.topology.now c.args.region c.args.entries.now
-    c.args.answers.now.items c.push.new.self.items c.in_ok-answer.answer
-    (c.in_ok-answer.ensures.entries ∙ c.in_ok-home.ensures) c.in_ok-answer.ensures.part c.in_ok-push.ensures.items
+pub follow_region-requires-clause-home : goal.follow_region-requires-clause-home
+follow_region-requires-clause-home g c = λ l h.
+    let Has : List Lead → Type 0 = λ ls. Contains ls l in
+    c.requires.round l (of_batch c.args.topology.now c.args.region c.args.round.now l (subst Has c.in_ok-pick.ensures h)).0
 
-pub returns-else-not-is_empty : goal.returns-else-not-is_empty
-returns-else-not-is_empty g c =
-    let none = (Decides-eqb (vec_len c.in_ok-home.home) 0).0 (sym c.is_empty.ensures ∙ c.if-not-is_empty.false) in
-    let no_length : length c.in_ok-home.home.items ≡ 0 = omega (arith, none) in
-    asks_none (net_of g.S.Sighting.shown c.args.sights.now c.args.topology.now) c.args.topology.now c.args.region c.args.entries.now
-    c.args.answers.now.items (sym c.in_ok-home.ensures ∙ no_items c.in_ok-home.home.items no_length)
+pub follow_region-requires-clause-region : goal.follow_region-requires-clause-region
+follow_region-requires-clause-region g c = λ n h.
+    let t = c.args.topology.now in
+    let Has : List Lead → Type 0 = λ ls. Contains (nodes_of ls) n in
+    let i = from_map node_of _ n (subst Has c.in_ok-pick.ensures h) in
+    let b = of_batch t c.args.region c.args.round.now i.of i.has in
+    let Home : Node → Type 0 = λ m. IsHome t c.args.region m in
+    subst Home i.is (record { exists = (c.requires.round i.of b.0).exists; here = b.1 })
+
+pub returns-clause-under_way : goal.returns-clause-under_way
+returns-clause-under_way g c = λ entries rest h.
+    let t = c.args.topology.now in
+    let P : List Lead → Type 0 = λ ls. IsUnderWay (net_of g.S.Sighting.shown c.args.sights.now t) everywhere entries c.args.search.now (nodes_of ls ++ (nodes_of c.args.leads.now.away.items ++ rest)) in
+    c.in_ok-follow_region.ensures.under_way entries rest (subst P (sym c.in_ok-pick.ensures) h)

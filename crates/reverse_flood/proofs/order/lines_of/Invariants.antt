@@ -1,5 +1,0 @@
-use Rattle.std.proofs.Common.{◌≡◌, ◌++◌}
-use Rattle.reverse_flood.proofs.order.lines_of.Given as goal
-
-abbrev pub invariant-loop-sig : goal.invariant-loop-sig
-invariant-loop-sig l = l.lines.items ++ l.sig-iterator ≡ l.rows.entries
