@@ -15,6 +15,7 @@ pub stands_like : (agent : Agent) (rules : Rules) (l : Ledger) (put covered left
     → Stands agent rules l → Stands agent rules (with_pages l put covered left at)
 stands_like agent rules l put covered left at same_put same_covered s = record {
   pages = s.pages;
+  count = s.count;
   closed = λ i d lt.
       let page : ℕ = agent.catalogue.gone + i in
       let is = s.closed i d lt in

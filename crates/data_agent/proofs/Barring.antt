@@ -24,9 +24,9 @@ use Rattle.data_agent.specs.Calls.{IsPassed, number_of, split_by, marks_of}
 use Rattle.data_agent.specs.Expiring.{IsExpiredBy, expired_with}
 use Rattle.data_agent.specs.Finishing.{IsFinished, finished_at}
 use Rattle.data_agent.specs.Passing.{IsTicked, StandsForSame, ticked_at}
-use Rattle.data_agent.specs.Standing.{HasNotes, Stands, StandsFor}
+use Rattle.data_agent.specs.Standing.{HasNotes, Stands, StandsWhole}
 use Rattle.data_agent.proofs.Alike.{stands_like}
-use Rattle.data_agent.proofs.Kept.{bits_text_kept}
+use Rattle.data_agent.proofs.Kept.{bits_text_kept, for_of}
 use Rattle.data_agent.proofs.Puts.{rose_then, rose_less}
 use Rattle.data_agent.proofs.Steps.{keeps_closing}
 
@@ -93,7 +93,7 @@ abbrev pub outcome_of : Option Archived → Option Closed → List PageNo → Ba
 outcome_of archived closed left = record { archived = archived; closed = closed; left = left }
 
 pub passed : (old after new middle : Agent) (rules : Rules) (l : Ledger) (u : Unfinished) (clock : ℕ) (tick : Bool) (archived : Option Archived) (closed : Option Closed) (left : List PageNo) (x y z : ShelfView) → Parts old after new rules l u clock tick archived closed left middle x y z
-    → StandsFor new rules (behind_barrier rules l clock tick (split_by archived) (map number_of left)) nothing_unfinished
+    → StandsWhole new rules (behind_barrier rules l clock tick (split_by archived) (map number_of left)) nothing_unfinished
 passed old after new middle rules l u clock tick archived closed left x y z p =
     let split = split_by archived in
     record {
@@ -136,17 +136,17 @@ others old after new middle rules l u clock tick archived closed left x y z p st
 
 -- ---- after want of memory
 
-pub recorded_finished : (agent : Agent) (rules : Rules) (l : Ledger) (split : Split) → StandsFor agent rules (finished_at l split) nothing_unfinished → StandsForSame agent rules l
-recorded_finished agent rules l split s = (finished_at l split, nothing_unfinished, s, refl, refl, refl)
+pub recorded_finished : (agent : Agent) (rules : Rules) (l : Ledger) (split : Split) → StandsWhole agent rules (finished_at l split) nothing_unfinished → StandsForSame agent rules l
+recorded_finished agent rules l split s = (finished_at l split, nothing_unfinished, for_of agent rules (finished_at l split) nothing_unfinished s, refl, refl, refl)
 
-pub recorded_expired : (after new : Agent) (rules : Rules) (l : Ledger) (split : Split) (clock : ℕ) (tick : Bool) → StandsFor after rules (ticked_at rules (finished_at l split) clock tick) nothing_unfinished
+pub recorded_expired : (after new : Agent) (rules : Rules) (l : Ledger) (split : Split) (clock : ℕ) (tick : Bool) → StandsWhole after rules (ticked_at rules (finished_at l split) clock tick) nothing_unfinished
     → Stands new rules (expired_with (ticked_at rules (finished_at l split) clock tick) clock []) → new.noted ≡ after.noted → StandsForSame new rules l
 recorded_expired after new rules l split clock tick s stands noted =
     let before : Ledger = ticked_at rules (finished_at l split) clock tick in
     let kept = kept_tick rules (finished_at l split) clock tick in (
       expired_with before clock [],
       nothing_unfinished,
-      record { stands = stands; noted = subst (HasNotes rules (expired_with before clock []) nothing_unfinished None) (sym noted) (none_noted rules before (expired_with before clock []) after.noted s.noted) },
+      for_of new rules (expired_with before clock []) nothing_unfinished (record { stands = stands; noted = subst (HasNotes rules (expired_with before clock []) nothing_unfinished None) (sym noted) (none_noted rules before (expired_with before clock []) after.noted s.noted) }),
       kept.router,
       kept.entries,
       kept.rows,

@@ -19,7 +19,7 @@ use Rattle.data_agent.specs.declared.agent.Agent.{Agent}
 use Rattle.data_agent.specs.declared.archival.Note.{Note}
 use Rattle.data_agent.specs.Archiving.{NotesTo}
 use Rattle.data_agent.specs.Calls.{MayNote, IsNoted, with_more}
-use Rattle.data_agent.specs.Standing.{Stands, StandsFor, is_refused, noted_page, put_page}
+use Rattle.data_agent.specs.Standing.{Stands, StandsWhole, is_refused, noted_page, put_page}
 use Rattle.data_agent.proofs.Alike.{none_noted, not_noted, stands_like}
 use Rattle.data_agent.proofs.Kept.{same_bits}
 use Rattle.data_agent.proofs.Members.{is_in-none}
@@ -68,13 +68,13 @@ covered_is agent rules l page s = (
   ),
 )
 
-pub notes_stand : (agent : Agent) (notes : Vec Note Global) (rules other : Rules) (l m : Ledger) (u : Unfinished) (x z : ShelfView) → StandsFor agent rules l u → agent.noted ≡ None → NotesTo rules l agent.catalogue.gone agent.page.number notes.items x z
-    → StandsFor (record agent { noted = Some notes }) rules (at_archive l) (with_more u (more_of other m notes.items))
+pub notes_stand : (agent : Agent) (notes : Vec Note Global) (rules other : Rules) (l m : Ledger) (u : Unfinished) (x z : ShelfView) → StandsWhole agent rules l u → agent.noted ≡ None → NotesTo rules l agent.catalogue.gone agent.page.number notes.items x z
+    → StandsWhole (record agent { noted = Some notes }) rules (at_archive l) (with_more u (more_of other m notes.items))
 notes_stand agent notes rules other l m u x z s none noted =
     let new : Agent = record agent { noted = Some notes } in
     record {
       stands = stands_like new rules l l.put_before l.covered_before l.left_before (Some l.account.closings) (λ page. refl) (λ page. refl)
-          (stands_same agent new rules l s.stands refl refl refl refl refl refl refl refl refl refl refl);
+          (stands_same agent new rules l s.stands refl refl refl refl refl refl refl refl refl refl refl refl);
       noted = record {
         closed = omega arith;
         covers = λ page. (
@@ -104,11 +104,11 @@ holds_still agent rules l notes x z s noted t h = record {
       ∙ h.gone page part gone covered apart;
 }
 
-pub archived : (agent : Agent) (notes : Vec Note Global) (x z : ShelfView) → MayNote (StandsFor agent) → ((rules : Rules) (l : Ledger) → Stands agent rules l → NotesTo rules l agent.catalogue.gone agent.page.number notes.items x z)
-    → (more : Unfinished) × IsNoted (StandsFor agent) (StandsFor (record agent { noted = Some notes })) more x.tells x.contents z.contents × RoseBy more.refused x.faults z.faults
+pub archived : (agent : Agent) (notes : Vec Note Global) (x z : ShelfView) → MayNote (StandsWhole agent) → ((rules : Rules) (l : Ledger) → Stands agent rules l → NotesTo rules l agent.catalogue.gone agent.page.number notes.items x z)
+    → (more : Unfinished) × IsNoted (StandsWhole agent) (StandsWhole (record agent { noted = Some notes })) more x.tells x.contents z.contents × RoseBy more.refused x.faults z.faults
 archived agent notes x z (rules0, l0, u0, s0, none0) noted =
     let none : agent.noted ≡ None = none_noted rules0 l0 u0 l0.closed_at_archive agent.noted s0.noted none0 in
-    let same : (rules : Rules) (l : Ledger) (u : Unfinished) (note : Note) → StandsFor agent rules l u → Contains notes.items note → bits rules0 l0.account note.page.number ≡ bits rules l.account note.page.number =
+    let same : (rules : Rules) (l : Ledger) (u : Unfinished) (note : Note) → StandsWhole agent rules l u → Contains notes.items note → bits rules0 l0.account note.page.number ≡ bits rules l.account note.page.number =
     λ rules l u note s has.
     let (from, to, unput) = ((noted rules0 l0 s0.stands).covers note.page.number).0 (into_map noted_page notes.items note has) in
     let e = s0.stands.pages.page in

@@ -23,7 +23,7 @@ use Rattle.data_agent.specs.declared.finishing.Settled.{Settled}
 use Rattle.data_agent.specs.declared.outcome.Archived.{Archived}
 use Rattle.data_agent.specs.Calls.{number_of, split_by}
 use Rattle.data_agent.specs.Finishing.{FinishesTo, IsFinished, covered_all, finished_at, numbers_kept, numbers_put, pages_kept, pages_put, put_all, put_where, settled_all, settled_number, settled_page, was_kept, was_put}
-use Rattle.data_agent.specs.Standing.{AreNotes, HasNotes, IsBitsDigest, Stands, StandsFor, noted_page, is_refused, put_page}
+use Rattle.data_agent.specs.Standing.{AreNotes, HasNotes, IsBitsDigest, Stands, StandsWhole, noted_page, is_refused, put_page}
 use Rattle.data_agent.proofs.Alike.{not_noted, stands_like}
 use Rattle.data_agent.proofs.Members.{is_in-append, is_in-none}
 use Rattle.data_agent.proofs.Puts.{rose_none, same_page, same_part}
@@ -207,7 +207,7 @@ finished_split old new rules l u closings notes settled archived x z s at n f st
     record {
       told = sym (ap is_some at);
       split = subst (IsSplitWhere rules l l.closed_at_archive) same (subst (λ o. IsSplitWhere rules l o (numbers_split settled)) (sym at) (split_is rules l u closings notes settled n f.pages));
-      stands = subst (λ (sp : Split). StandsFor new rules (finished_at l sp) nothing_unfinished) same (record {
+      stands = subst (λ (sp : Split). StandsWhole new rules (finished_at l sp) nothing_unfinished) same (record {
         stands = stands_like new rules (settled_all l settled) (numbers_put settled ++ l.put_before) ((numbers_put settled ++ numbers_kept settled) ++ l.covered_before) l.left_before None
             (λ page. put_members settled l.put_before page) (λ page. covered_members settled l.covered_before page) stands;
         noted = subst (HasNotes rules (finished_at l (numbers_split settled)) nothing_unfinished None) (sym none) refl;
@@ -224,7 +224,7 @@ finished_some old new rules l u None notes settled archived x z s at h f stands 
 finished_some old new rules l u (Some closings) notes settled archived x z s at h f stands none put kept =
     finished_split old new rules l u closings notes.items settled archived x z s at h f stands none (numbers_split settled) (told_split archived settled put kept) refl
 
-pub finished_none : (agent : Agent) (rules : Rules) (l : Ledger) (u : Unfinished) (x : ShelfView) → StandsFor agent rules l u → agent.noted ≡ None → IsFinished rules l u None agent x x
+pub finished_none : (agent : Agent) (rules : Rules) (l : Ledger) (u : Unfinished) (x : ShelfView) → StandsWhole agent rules l u → agent.noted ≡ None → IsFinished rules l u None agent x x
 finished_none agent rules l u x s none =
     let (at, refused) = not_noted rules l u l.closed_at_archive agent.noted s.noted none in
     record {

@@ -1,5 +1,5 @@
 -- The expiry of pages.
-use Rattle.std.proofs.Common.{ℕ, ◌≡◌, ◌≤◌, ◌<◌, ◌+◌, ◌-◌, ◌∙◌, ◌∷◌, [], ◌++◌, ◌||◌, ◌&&◌, ◌⊎◌, List, length, map, get_or, drop, Bool, true, false, cond, nat_lt, nat_le, None, sym, ap, refl, subst, inl, inr, arith, Box, Global, length-drop, get_or-drop}
+use Rattle.std.proofs.Common.{ℕ, ◌≡◌, ◌≤◌, ◌<◌, ◌+◌, ◌-◌, ◌∙◌, ◌∷◌, [], ◌++◌, ◌||◌, ◌&&◌, ◌⊎◌, List, length, map, get_or, drop, Bool, true, false, cond, nat_lt, nat_le, None, sym, ap, refl, subst, inl, inr, arith, length-drop, get_or-drop}
 use Rattle.std.specs.List.{Contains}
 use Rattle.std.proofs.lemmas.Option.{slice_get-get_or}
 use Rattle.std.proofs.lemmas.Bool.{cases_lt, cases_eq, lt-ltb, le-ltb, ltb-true, ltb-false, le-leb}
@@ -21,11 +21,12 @@ use Rattle.packet_signature.specs.declared.Row.{Row}
 use Rattle.transform_table.specs.Tables.{rows_of_page}
 use Rattle.data_agent.specs.declared.agent.Agent.{Agent}
 use Rattle.data_agent.specs.declared.closed_page.ClosedPage.{ClosedPage}
-use Rattle.data_agent.specs.declared.resident.Resident.{Resident}
 use Rattle.data_agent.specs.Calls.{number_of}
 use Rattle.data_agent.specs.Expiring.{DiscardsOne, Discards, IsExpiredBy, covers_at, is_covered_in, expired_with}
-use Rattle.data_agent.specs.Residents.{IsResident}
-use Rattle.data_agent.specs.Standing.{AreClosed, IsClosed, Stands}
+use Rattle.page_gate.specs.Held.{Held}
+use Rattle.spie_base.specs.Shapes.{shape_of}
+use Rattle.data_agent.proofs.Steps.{pages_with}
+use Rattle.data_agent.specs.Standing.{AreClosed, IsClosed, IsKeeping, Stands, standing}
 use Rattle.data_agent.proofs.Kept.{some_page}
 use Rattle.data_agent.proofs.Passing.{none_rise}
 use Rattle.data_agent.proofs.Puts.{rose_then, rose_none, same_page}
@@ -119,32 +120,35 @@ rows_behind old new page put rows le = elim (cases_lt page old) [
 ]
 
 pub expired : (old new : Agent) (rules : Rules) (l : Ledger) (clock : ℕ) → Stands old rules l
-    → new.rules ≡ old.rules → new.router ≡ old.router → new.page ≡ old.page → new.opened ≡ old.opened → new.marked ≡ old.marked → new.catalogue.rules ≡ old.catalogue.rules → new.catalogue.closings ≡ old.catalogue.closings → new.catalogue.clock ≡ clock
+    → new.rules ≡ old.rules → new.router ≡ old.router → new.page ≡ old.page → new.earliest ≡ new.catalogue.gone → new.keeper ≡ old.keeper → new.marked ≡ old.marked → new.catalogue.rules ≡ old.catalogue.rules → new.catalogue.closings ≡ old.catalogue.closings → new.catalogue.clock ≡ clock
     → old.catalogue.gone ≤ new.catalogue.gone → new.catalogue.gone ≤ length old.catalogue.closings → AreExpired old.catalogue.rules old.catalogue.closings clock new.catalogue.gone
     → new.closed.items ≡ drop (new.catalogue.gone - old.catalogue.gone) old.closed.items
     → ((page : ℕ) → rows_of_page page new.table ≡ rows_outside old.catalogue.gone new.catalogue.gone page (rows_of_page page old.table)) → Stands new rules (expired_with l clock [])
-expired old new rules l clock s same_rules same_router page opened marked by closings at grown within exact items kept =
+expired old new rules l clock s same_rules same_router page first keeper marked by closings at grown within exact items kept =
     let count : ℕ = new.catalogue.gone - old.catalogue.gone in
     let sum : old.catalogue.gone + count ≡ new.catalogue.gone = omega arith in
-    let before : old.catalogue.gone + length old.closed.items ≡ length l.account.closings = s.pages.count in
+    let before : old.catalogue.gone + length old.closed.items ≡ length l.account.closings = s.count in
     let len : length new.closed.items ≡ length old.closed.items - count = ap length items ∙ length-drop count old.closed.items in
     let same : length old.catalogue.closings ≡ length l.account.closings = ap length s.pages.closings in
+    let here : standing old ≡ standing new = omega arith in
     record {
-      pages = record {
-        ranges = s.pages.ranges;
-        router_fits = s.pages.router_fits;
-        rules_are = same_rules ∙ s.pages.rules_are;
-        router = ap (λ r. r.number) same_router ∙ s.pages.router;
-        by_rules = by ∙ s.pages.by_rules;
-        closings = closings ∙ s.pages.closings;
-        times = s.pages.times;
-        few = s.pages.few;
-        page = ap (λ p. p.number) page ∙ s.pages.page;
-        entered = s.pages.entered;
-        opened = subst (λ (b : Box Resident Global). IsResident rules l.account (length l.account.closings) b.value) (sym opened) s.pages.opened;
-        marked = let m = s.pages.marked in let e : length new.opened.value.page.members ≡ length old.opened.value.page.members = ap (λ (b : Box Resident Global). length b.value.page.members) opened in omega arith;
-        count = omega arith;
-      };
+      pages = (let p = pages_with old new rules l.account s.pages same_rules same_router page first (let m = s.pages.marked in omega arith) by closings
+          (subst (λ (n : ℕ). IsKeeping (shape_of rules l.account.router) new.keeper l.account.entries n (length l.account.closings)) here (subst (λ (k : Held). IsKeeping (shape_of rules l.account.router) k l.account.entries (standing old) (length l.account.closings)) (sym keeper) s.pages.keeping)) in record {
+            ranges = p.ranges;
+            router_fits = p.router_fits;
+            rules_are = p.rules_are;
+            router = p.router;
+            by_rules = p.by_rules;
+            closings = p.closings;
+            times = p.times;
+            few = p.few;
+            page = p.page;
+            entered = p.entered;
+            first = p.first;
+            marked = p.marked;
+            keeping = p.keeping;
+          });
+      count = omega arith;
       closed = subst (λ g. AreClosed rules (expired_with l clock []) g new.closed.items) sum (subst (AreClosed rules (expired_with l clock []) (old.catalogue.gone + count)) (sym items)
           (closed_behind rules l (expired_with l clock []) old.catalogue.gone count old.closed.items (λ p c is. record { covered = is.covered; placed = is.placed }) s.closed));
       to_come = λ p le. let t = s.to_come p le in record { unput = t.unput; uncovered = t.uncovered };
@@ -162,7 +166,7 @@ expired old new rules l clock s same_rules same_router page opened marked by clo
 covers_is : (agent : Agent) (rules : Rules) (l : Ledger) (page : ℕ) → Stands agent rules l → agent.catalogue.gone ≤ page → page < length l.account.closings
     → covers_at agent.catalogue.gone agent.closed.items page ≡ is_in l.covered_before page
 covers_is agent rules l page s from to =
-    let count = s.pages.count in
+    let count = s.count in
     let at : agent.catalogue.gone + (page - agent.catalogue.gone) ≡ page = omega arith in
     ap is_covered_in (slice_get-get_or agent.closed.items (page - agent.catalogue.gone) (some_page agent) (omega arith))
     ∙ subst (λ p. (get_or agent.closed.items (page - agent.catalogue.gone) (some_page agent)).covered ≡ is_in l.covered_before p) at (s.closed (page - agent.catalogue.gone) (some_page agent) (omega arith)).covered
@@ -199,7 +203,7 @@ expired_by agent rules l clock gone left x z s exact grown within d =
 -- no page expires
 pub expired_none : (agent : Agent) (rules : Rules) (l : Ledger) (clock : ℕ) (x : ShelfView) → Stands agent rules l → AreExpired rules l.account.closings clock agent.catalogue.gone → IsExpiredBy rules l clock [] x x
 expired_none agent rules l clock x s exact =
-    let within = s.pages.count in
+    let within = s.count in
     expired_by agent rules l clock agent.catalogue.gone [] x x s exact (omega arith) (omega arith) (discards_none l.account.router agent.catalogue.gone (covers_at agent.catalogue.gone agent.closed.items) x)
 
 -- ---- in the forms of the catalogue

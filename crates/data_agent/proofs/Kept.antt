@@ -23,7 +23,8 @@ use Rattle.data_agent.specs.declared.closed_page.Whereabouts.{Whereabouts}
 use Rattle.data_agent.specs.declared.closed_page.Whereabouts.TheVariants.{InMemory, OnShelf}
 use Rattle.data_agent.specs.declared.resident.Resident.{Resident}
 use Rattle.data_agent.specs.Residents.{IsResident}
-use Rattle.data_agent.specs.Standing.{AreClosed, AreDigests, HasNotes, IsBitsDigest, IsPlaced, Stands, noted_page, rows_kept}
+use Rattle.data_agent.specs.Standing.{AreClosed, AreDigests, HasNotes, HasRows, IsBitsDigest, IsPlaced, Stands, StandsAmid, StandsFor, StandsWhole, noted_page, rows_kept, standing}
+use Rattle.data_agent.specs.Planes.{AreTaken}
 
 -- the closed pages of one account have the same bits and times in another
 pub record Keeps (rules : Rules) (a b : Account) : Type 0 where
@@ -66,7 +67,7 @@ resident_kept rules a b page r router set is = record {
 
 place_kept : (rules : Rules) (a b : Account) (page : ℕ) (put : Bool) (w : Whereabouts) → Keeps rules a b → page < length a.closings → (put ≡ true → rows_in b.rows page ≡ rows_in a.rows page)
     → IsPlaced rules a page put w → IsPlaced rules b page put w
-place_kept rules a b page put (InMemory r) k lt rows (unput, is) = (unput, resident_kept rules a b page r.value k.router (k.bits page lt) is)
+place_kept rules a b page put (InMemory r) k lt rows (unput, is) = (unput, resident_kept rules a b page r k.router (k.bits page lt) is)
 place_kept rules a b page put (OnShelf d) k lt rows (is_put, is) = (is_put, digests_kept rules a b page d k lt (rows is_put) is)
 
 pub closed_kept : (rules : Rules) (l : Ledger) (b : Account) (first : ℕ) (pages : List ClosedPage) → Keeps rules l.account b → first + length pages ≤ length l.account.closings
@@ -97,10 +98,36 @@ notes_kept rules l b u (Some closings) (Some notes) k h = record {
   refused = h.refused;
 }
 
+-- ---- an agent of which all closed pages have left their slots, and one amid a segment
+
+pub whole_of : (agent : Agent) (rules : Rules) (l : Ledger) (u : Unfinished) → AreTaken agent → StandsFor agent rules l u → StandsWhole agent rules l u
+whole_of agent rules l u taken s =
+    let page = s.amid.pages.page in
+    record {
+      stands = record {
+        pages = s.amid.pages;
+        count = taken ∙ page;
+        closed = s.amid.closed;
+        to_come = λ p le. s.amid.to_come p (omega arith);
+        rows = s.amid.rows;
+        expired = s.amid.expired;
+        clock = s.amid.clock;
+      };
+      noted = s.noted;
+    }
+
+pub amid_of : (agent : Agent) (rules : Rules) (l : Ledger) → Stands agent rules l → StandsAmid agent rules l
+amid_of agent rules l s =
+    let count = s.count in
+    record { pages = s.pages; closed = s.closed; to_come = λ p le. s.to_come p (omega arith); rows = s.rows; expired = s.expired; clock = s.clock }
+
+pub for_of : (agent : Agent) (rules : Rules) (l : Ledger) (u : Unfinished) → StandsWhole agent rules l u → StandsFor agent rules l u
+for_of agent rules l u s = record { amid = amid_of agent rules l s.stands; noted = s.noted }
+
 -- ---- two ledgers of one agent
 
 abbrev pub some_page : Agent → ClosedPage
-some_page agent = record { place = InMemory agent.opened; covered = false }
+some_page agent = record { place = OnShelf (record { bits = []; rows = [] }); covered = false }
 
 -- where a page is
 pub place_at : Agent → (page : ℕ) → Whereabouts
@@ -109,7 +136,7 @@ place_at agent page = (get_or agent.closed.items (page - agent.catalogue.gone) (
 pub closed_at : (agent : Agent) (rules : Rules) (l : Ledger) (page : ℕ) → Stands agent rules l → agent.catalogue.gone ≤ page → page < length l.account.closings → IsPlaced rules l.account page (is_in l.put_before page) (place_at agent page)
 unfolding place_at
 closed_at agent rules l page s from to =
-    let count : agent.catalogue.gone + length agent.closed.items ≡ length l.account.closings = s.pages.count in
+    let count : agent.catalogue.gone + length agent.closed.items ≡ length l.account.closings = s.count in
     let at : agent.catalogue.gone + (page - agent.catalogue.gone) ≡ page = omega arith in
     subst (λ p. IsPlaced rules l.account p (is_in l.put_before p) (place_at agent page)) at (s.closed (page - agent.catalogue.gone) (some_page agent) (omega arith)).placed
 
@@ -120,13 +147,21 @@ same_place rules other a b page p q (OnShelf d) x y = x.0 ∙ sym y.0
 pub same_ends : (agent : Agent) (rules other : Rules) (l m : Ledger) → Stands agent rules l → Stands agent other m → length l.account.closings ≡ length m.account.closings
 same_ends agent rules other l m s t = ap length (sym s.pages.closings ∙ t.pages.closings)
 
-pub same_put : (agent : Agent) (rules other : Rules) (l m : Ledger) (page : ℕ) → Stands agent rules l → Stands agent other m → agent.catalogue.gone ≤ page → is_in l.put_before page ≡ is_in m.put_before page
-same_put agent rules other l m page s t from =
-    let e : length l.account.closings ≡ length m.account.closings = same_ends agent rules other l m s t in
-    elim (cases_lt page (length l.account.closings)) [
-      | inl lt ↦ same_place rules other l.account m.account page (is_in l.put_before page) (is_in m.put_before page) (place_at agent page) (closed_at agent rules l page s from lt) (closed_at agent other m page t from (omega arith))
-      | inr ge ↦ (s.to_come page ge).unput ∙ sym (t.to_come page (omega arith)).unput
+closed_amid : (agent : Agent) (rules : Rules) (l : Ledger) (page : ℕ) → StandsAmid agent rules l → agent.catalogue.gone ≤ page → page < standing agent → IsPlaced rules l.account page (is_in l.put_before page) (place_at agent page)
+unfolding place_at
+closed_amid agent rules l page s from to =
+    let at : agent.catalogue.gone + (page - agent.catalogue.gone) ≡ page = omega arith in
+    subst (λ p. IsPlaced rules l.account p (is_in l.put_before p) (place_at agent page)) at (s.closed (page - agent.catalogue.gone) (some_page agent) (omega arith)).placed
+
+pub same_put_amid : (agent : Agent) (rules other : Rules) (l m : Ledger) (page : ℕ) → StandsAmid agent rules l → StandsAmid agent other m → agent.catalogue.gone ≤ page → is_in l.put_before page ≡ is_in m.put_before page
+same_put_amid agent rules other l m page s t from =
+    elim (cases_lt page (standing agent)) [
+      | inl lt ↦ same_place rules other l.account m.account page (is_in l.put_before page) (is_in m.put_before page) (place_at agent page) (closed_amid agent rules l page s from lt) (closed_amid agent other m page t from lt)
+      | inr ge ↦ (s.to_come page ge).unput ∙ sym (t.to_come page ge).unput
     ]
+
+pub same_put : (agent : Agent) (rules other : Rules) (l m : Ledger) (page : ℕ) → Stands agent rules l → Stands agent other m → agent.catalogue.gone ≤ page → is_in l.put_before page ≡ is_in m.put_before page
+same_put agent rules other l m page s t from = same_put_amid agent rules other l m page (amid_of agent rules l s) (amid_of agent other m t) from
 
 same_set : (rules other : Rules) (a b : Account) (page : ℕ) (p q : Bool) (w : Whereabouts) → p ≡ false → IsPlaced rules a page p w → IsPlaced other b page q w → page_set rules a page ≡ page_set other b page
 same_set rules other a b page p q (InMemory r) unput x y = sym x.1.page_is ∙ y.1.page_is
@@ -143,5 +178,8 @@ pub kept_here : (gone : ℕ) (l : Ledger) (page : ℕ) → gone ≤ page → is_
 kept_here gone l page from unput = ap (λ b. cond (b || is_in l.put_before page) [] (rows_in l.account.rows page)) (le-ltb page gone from) ∙ ap (λ b. cond b [] (rows_in l.account.rows page)) unput
 
 -- the rows of a page in memory are those in the table
+pub rows_near : (agent : Agent) (l : Ledger) (page : ℕ) → HasRows agent l → agent.catalogue.gone ≤ page → is_in l.put_before page ≡ false → rows_of_page page agent.table ≡ rows_in l.account.rows page
+rows_near agent l page rows from unput = rows.table page ∙ kept_here agent.catalogue.gone l page from unput
+
 pub rows_here : (agent : Agent) (rules : Rules) (l : Ledger) (page : ℕ) → Stands agent rules l → agent.catalogue.gone ≤ page → is_in l.put_before page ≡ false → rows_of_page page agent.table ≡ rows_in l.account.rows page
-rows_here agent rules l page s from unput = s.rows.table page ∙ kept_here agent.catalogue.gone l page from unput
+rows_here agent rules l page s from unput = rows_near agent l page s.rows from unput

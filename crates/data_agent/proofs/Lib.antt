@@ -6,6 +6,7 @@ pub mod Ended
 pub mod Ending
 pub mod Expiry
 pub mod Fitting
+pub mod Keeping
 pub mod Kept
 pub mod Looks
 pub mod Members
@@ -13,6 +14,7 @@ pub mod Noting
 pub mod Ordered
 pub mod Origins
 pub mod Passing
+pub mod Planes
 pub mod Puts
 pub mod ReadingBack
 pub mod Results

@@ -195,7 +195,7 @@ pub record IsFetched (looks : List Look) (y : GotPage) : Type 0 where
   pub at : look.page.number ≡ y.page
   pub page : ReadPage
   pub is : look.looked ≡ ReadBack page
-  pub held_is : (let h : Held = record { bits = page.resident.value.page.members; rows = page.rows } in h) ≡ y.held
+  pub held_is : (let h : Held = record { bits = page.resident.page.members; rows = page.rows } in h) ≡ y.held
 
 lost_first : (page : PageNo) (looked : Looked) (looks : List Look) (y : UnreadPage) → (Contains (reading_of looks).unread y → IsLost looks y) → Contains (reading_of ((let k : Look = record { page = page; looked = looked } in k) ∷ looks)).unread y
     → IsLost ((let k : Look = record { page = page; looked = looked } in k) ∷ looks) y
@@ -218,7 +218,7 @@ fetched_first page (Borrowed r) looks y later has = let i = later has in record 
 fetched_first page (Unread cause) looks y later has = let i = later has in record { look = i.look; has = has_later _ looks i.look i.has; at = i.at; page = i.page; is = i.is; held_is = i.held_is }
 fetched_first page (ReadBack p) looks y later has =
     let look : Look = record { page = page; looked = ReadBack p } in
-    elim (has_cases (let g : GotPage = record { page = page.number; held = record { bits = p.resident.value.page.members; rows = p.rows } } in g) (reading_of looks).got y has) [
+    elim (has_cases (let g : GotPage = record { page = page.number; held = record { bits = p.resident.page.members; rows = p.rows } } in g) (reading_of looks).got y has) [
       | inl here ↦ record { look = look; has = has_first look looks; at = ap (λ g. g.page) here; page = p; is = refl; held_is = ap (λ g. g.held) here }
       | inr more ↦ let i = later more in record { look = i.look; has = has_later look looks i.look i.has; at = i.at; page = i.page; is = i.is; held_is = i.held_is }
     ]
@@ -245,8 +245,8 @@ into_filter_map h (k ∷ xs) x y has e = elim (has_cases k xs x has) [
 pub into_lost : (looks : List Look) (look : Look) (cause : Cause) → Contains looks look → look.looked ≡ Unread cause → Contains (reading_of looks).unread (record { page = look.page.number; cause = cause })
 into_lost looks look cause has is = into_filter_map (λ k. unread_in k.page.number k.looked) looks look (record { page = look.page.number; cause = cause }) has (ap (unread_in look.page.number) is)
 
-pub into_got : (looks : List Look) (look : Look) (p : ReadPage) → Contains looks look → look.looked ≡ ReadBack p → Contains (reading_of looks).got (record { page = look.page.number; held = record { bits = p.resident.value.page.members; rows = p.rows } })
-into_got looks look p has is = into_filter_map (λ k. got_in k.page.number k.looked) looks look (record { page = look.page.number; held = record { bits = p.resident.value.page.members; rows = p.rows } }) has (ap (got_in look.page.number) is)
+pub into_got : (looks : List Look) (look : Look) (p : ReadPage) → Contains looks look → look.looked ≡ ReadBack p → Contains (reading_of looks).got (record { page = look.page.number; held = record { bits = p.resident.page.members; rows = p.rows } })
+into_got looks look p has is = into_filter_map (λ k. got_in k.page.number k.looked) looks look (record { page = look.page.number; held = record { bits = p.resident.page.members; rows = p.rows } }) has (ap (got_in look.page.number) is)
 
 -- ---- they rise
 

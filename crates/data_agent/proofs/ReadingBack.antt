@@ -1,5 +1,5 @@
 -- A page that was read back.
-use Rattle.std.proofs.Common.{ℕ, ◌≡◌, ◌≤◌, ◌<◌, ◌+◌, ◌-◌, ◌∙◌, true, get_or, length, sym, ap, subst, arith, Box, Global}
+use Rattle.std.proofs.Common.{ℕ, ◌≡◌, ◌≤◌, ◌<◌, ◌+◌, ◌-◌, ◌∙◌, true, get_or, length, sym, ap, subst, arith}
 use Rattle.sha2.specs.Sha256.{sha256}
 use Rattle.spie_base.specs.Shapes.{shape_of}
 use Rattle.spie_base.specs.declared.Rules.{Rules}
@@ -40,12 +40,12 @@ back_is agent rules l page head d x z got s from to here ds promises =
     let end : page < length l.account.closings = let e = s.pages.page in omega arith in
     promises rules l.account page here (ap (λ (r : Rules). r.n) s.pages.rules_are) (true_bits_fit agent rules l.account page s.pages end) (true_rows_fit agent rules l page s from end) ds.bits ds.rows
 
-pub got_is : (agent : Agent) (rules : Rules) (l : Ledger) (page : ℕ) (c : Content) (resident : Box Resident Global) (x : ShelfView) → Stands agent rules l → IsRead agent.rules agent.router.number page c.bits resident.value
+pub got_is : (agent : Agent) (rules : Rules) (l : Ledger) (page : ℕ) (c : Content) (resident : Resident) (x : ShelfView) → Stands agent rules l → IsRead agent.rules agent.router.number page c.bits resident
     → IsGot rules l.account page c × (AreTold rules l.account page x → IsTrue rules l.account page c)
     → (let p : ReadPage = record { resident = resident; rows = c.rows } in IsReadPage rules l.account page p × (AreTold rules l.account page x → IsTruePage rules l.account page p))
 got_is agent rules l page c resident x s read got =
     let a = l.account in
-    let members : c.bits.members ≡ resident.value.page.members = ap (λ p. p.members) (sym read.bits_are) in
+    let members : c.bits.members ≡ resident.page.members = ap (λ p. p.members) (sym read.bits_are) in
     let b = got.0.bits in
     let r = got.0.rows in (
       record {
@@ -69,7 +69,7 @@ got_is agent rules l page c resident x s read got =
 pub on_shelf_is : (agent : Agent) (rules : Rules) (l : Ledger) (page : ℕ) (c : ClosedPage) (d : Digests) → Stands agent rules l → agent.catalogue.gone ≤ page → page < agent.page.number
     → c ≡ get_or agent.closed.items (page - agent.catalogue.gone) c → c.place ≡ OnShelf d → (is_in l.put_before page ≡ true) × AreDigests rules l.account page d
 on_shelf_is agent rules l page c d s from to at is =
-    let count : agent.catalogue.gone + length agent.closed.items ≡ length l.account.closings = s.pages.count in
+    let count : agent.catalogue.gone + length agent.closed.items ≡ length l.account.closings = s.count in
     let end = s.pages.page in
     let here : agent.catalogue.gone + (page - agent.catalogue.gone) ≡ page = omega arith in
     let placed = (s.closed (page - agent.catalogue.gone) c (omega arith)).placed in

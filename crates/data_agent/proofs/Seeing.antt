@@ -26,7 +26,7 @@ use Rattle.data_agent.specs.declared.looking.Looked.TheVariants.{Borrowed, ReadB
 use Rattle.data_agent.specs.declared.looking.ReadPage.{ReadPage}
 use Rattle.data_agent.specs.Looking.{AreLooks, IsKnown, LooksTo, is_unread, look_shows, looked_unread, looked_shows, reading_of}
 use Rattle.data_agent.specs.Seeing.{expired_in}
-use Rattle.data_agent.specs.Standing.{Stands, StandsFor}
+use Rattle.data_agent.specs.Standing.{Stands, StandsWhole}
 use Rattle.data_agent.proofs.Looks.{any_looks, fetched_is, into_got, into_lost, look_is, look_same, lost_is}
 use Rattle.data_agent.proofs.Runs.{filter_run, any_map}
 use Rattle.data_agent.proofs.Watching.{same_shows, any_has, none_has}
@@ -40,7 +40,7 @@ pub record Saw (agent : Agent) (rules : Rules) (l : Ledger) (time first last fro
   pub all : AreLooks rules l x from looks
   pub count : length looks ≡ last + 1 - from
 
-pub saw_by : (agent : Agent) (rules : Rules) (l : Ledger) (u : Unfinished) (time first last from : ℕ) (x z : ShelfView) (looks : List Look) → StandsFor agent rules l u → IsWindow rules l.account time first last → from ≡ max agent.catalogue.gone first
+pub saw_by : (agent : Agent) (rules : Rules) (l : Ledger) (u : Unfinished) (time first last from : ℕ) (x z : ShelfView) (looks : List Look) → StandsWhole agent rules l u → IsWindow rules l.account time first last → from ≡ max agent.catalogue.gone first
     → LooksTo rules l from (last + 1 - from) looks x z → Saw agent rules l time first last from x looks
 saw_by agent rules l u time first last from x z looks s w at looked = record { stands = s.stands; window_is = w; from_is = at; all = looked.each; count = looked.count_is }
 
@@ -84,7 +84,7 @@ got_some (x ∷ more) page own h y has at each = elim (cases_eq x.page page) [
 -- what is held of a page that was seen
 abbrev pub held_in : Looked → Held → Held
 held_in (Borrowed r) own = own
-held_in (ReadBack p) own = record { bits = p.resident.value.page.members; rows = p.rows }
+held_in (ReadBack p) own = record { bits = p.resident.page.members; rows = p.rows }
 held_in (Unread cause) own = own
 
 abbrev pub looked_read : Looked → Bool
@@ -94,7 +94,7 @@ looked_read (Unread cause) = false
 
 abbrev pub held_of_read : Held → Looked → Held
 held_of_read own (Borrowed r) = own
-held_of_read own (ReadBack p) = record { bits = p.resident.value.page.members; rows = p.rows }
+held_of_read own (ReadBack p) = record { bits = p.resident.page.members; rows = p.rows }
 held_of_read own (Unread cause) = own
 
 not_read : (looked : Looked) (own : Held) (none : looked_read looked ≡ false) (p : ReadPage) → looked ≡ ReadBack p → ⊥
@@ -109,7 +109,7 @@ held_is agent rules l time first last from x looks look own (Unread c) s has e =
     let i = fetched_is looks y in_it in
     not_read (Unread c) own refl i.page (sym e ∙ ap (λ k. k.looked) (sym (look_same rules l x from looks i.look look s.all i.has has (i.at ∙ at))) ∙ i.is))
 held_is agent rules l time first last from x looks look own (ReadBack p) s has e =
-    let h : Held = record { bits = p.resident.value.page.members; rows = p.rows } in
+    let h : Held = record { bits = p.resident.page.members; rows = p.rows } in
     got_some (reading_of looks).got look.page.number own h (record { page = look.page.number; held = h }) (into_got looks look p has e) refl (λ y in_it at.
     let i = fetched_is looks y in_it in
     let same : ReadBack i.page ≡ ReadBack p = sym i.is ∙ ap (λ k. k.looked) (look_same rules l x from looks i.look look s.all i.has has (i.at ∙ at)) ∙ e in
@@ -237,8 +237,8 @@ shows_is agent rules l time first last from x looks look sig (Borrowed r) s has 
     ∙ sym (same_shows rules l.account look.page.number r.now sig known.1)
 shows_is agent rules l time first last from x looks look sig (ReadBack p) s has e known =
     ap (λ (h : Held). are_in h.bits (marks rules l.account.router look.page.number sig)) (held_is agent rules l time first last from x looks look (held rules l.account look.page.number) (ReadBack p) s has e)
-    ∙ ap (are_in p.resident.value.page.members) (marks_of-family (shape_of rules l.account.router) look.page.number sig)
-    ∙ ap (λ f. are_in p.resident.value.page.members (positions_by f sig)) (sym known.1.family)
+    ∙ ap (are_in p.resident.page.members) (marks_of-family (shape_of rules l.account.router) look.page.number sig)
+    ∙ ap (λ f. are_in p.resident.page.members (positions_by f sig)) (sym known.1.family)
 shows_is agent rules l time first last from x looks look sig (Unread c) s has e known = refl
 
 pub hit_is : (agent : Agent) (rules : Rules) (l : Ledger) (time first last from : ℕ) (x : ShelfView) (looks : List Look) (sig : Sig) → Saw agent rules l time first last from x looks

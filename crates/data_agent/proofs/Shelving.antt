@@ -30,7 +30,7 @@ closed_shelved : (agent : Agent) (rules : Rules) (l : Ledger) (page : ℕ) (dige
     → AreClosed rules (shelved_in l page) agent.catalogue.gone (set agent.closed.items (page - agent.catalogue.gone) (on_shelf digests))
 closed_shelved agent rules l page digests s from to is i d lt =
     let len : length (set agent.closed.items (page - agent.catalogue.gone) (on_shelf digests)) ≡ length agent.closed.items = length-set agent.closed.items (page - agent.catalogue.gone) (on_shelf digests) in
-    let count : agent.catalogue.gone + length agent.closed.items ≡ length l.account.closings = s.pages.count in
+    let count : agent.catalogue.gone + length agent.closed.items ≡ length l.account.closings = s.count in
     elim (cases_eq (agent.catalogue.gone + i) page) [
       | inl here ↦
           let at : page - agent.catalogue.gone ≡ i = omega arith in
@@ -52,14 +52,17 @@ closed_shelved agent rules l page digests s from to is i d lt =
     ]
 
 pub shelved : (old new : Agent) (rules : Rules) (l : Ledger) (page : ℕ) (digests : Digests) → Stands old rules l → old.catalogue.gone ≤ page → page < old.page.number → AreDigests rules l.account page digests
-    → new.rules ≡ old.rules → new.router ≡ old.router → new.page ≡ old.page → new.opened ≡ old.opened → new.marked ≡ old.marked → new.catalogue ≡ old.catalogue
+    → new.rules ≡ old.rules → new.router ≡ old.router → new.page ≡ old.page → new.earliest ≡ old.earliest → new.keeper ≡ old.keeper → new.marked ≡ old.marked → new.catalogue ≡ old.catalogue
     → new.closed.items ≡ set old.closed.items (page - old.catalogue.gone) (on_shelf digests) → new.table ≡ without_page page old.table → Stands new rules (shelved_in l page)
-shelved old new rules l page digests s from to is same_rules same_router same_page opened marked catalogue items table =
+shelved old new rules l page digests s from to is same_rules same_router same_page first keeper marked catalogue items table =
     let end : page < length l.account.closings = let e = s.pages.page in omega arith in
     let gone : new.catalogue.gone ≡ old.catalogue.gone = ap (λ (c : Catalogued). c.gone) catalogue in
+    let len : length new.closed.items ≡ length old.closed.items = ap length items ∙ length-set old.closed.items (page - old.catalogue.gone) (on_shelf digests) in
+    let before = s.count in
     record {
-      pages = pages_same old new rules l.account s.pages same_rules same_router same_page opened marked (ap length items ∙ length-set old.closed.items (page - old.catalogue.gone) (on_shelf digests))
+      pages = pages_same old new rules l.account s.pages same_rules same_router same_page first keeper marked len
           (ap (λ (c : Catalogued). c.rules) catalogue) (ap (λ (c : Catalogued). c.closings) catalogue) gone;
+      count = omega arith;
       closed = subst (λ xs. AreClosed rules (shelved_in l page) new.catalogue.gone xs) (sym items)
           (subst (λ g. AreClosed rules (shelved_in l page) g (set old.closed.items (page - old.catalogue.gone) (on_shelf digests))) (sym gone) (closed_shelved old rules l page digests s from end is));
       to_come = λ other le.

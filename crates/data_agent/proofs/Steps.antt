@@ -1,5 +1,5 @@
 -- What an agent stands for after a record, a closing or a barrier.
-use Rattle.std.proofs.Common.{Result, Ok, Err, OnOk, None, Global, map, cond, ◌==◌, append-nil, ℕ, ◌≡◌, ◌≢◌, ◌≤◌, ◌<◌, ◌+◌, ◌-◌, ◌^◌, ◌∷◌, [], ◌++◌, ◌∙◌, List, length, get_or, filter, All, sym, ap, refl, subst, inl, inr, min, arith, Bool, true, false, ◌&&◌, ◌||◌, nat_lt, lit<, Box, length-append}
+use Rattle.std.proofs.Common.{Result, Ok, Err, OnOk, None, map, cond, ◌==◌, append-nil, ℕ, ◌≡◌, ◌≤◌, ◌<◌, ◌+◌, ◌-◌, ◌^◌, ◌∷◌, [], ◌++◌, ◌∙◌, List, length, get_or, filter, All, sym, ap, refl, subst, inl, inr, min, arith, Bool, true, false, ◌&&◌, ◌||◌, nat_lt, lit<, length-append}
 use Rattle.std.proofs.lemmas.Bool.{cases_eq, eq-eqb, eqb-true, ne_eqb, cases_lt, le-ltb, ltb-false, false≢true}
 use Rattle.spie_base.proofs.Booleans.{none_holds}
 use Rattle.router_account.specs.Account.{with_row}
@@ -9,8 +9,7 @@ use Rattle.std.proofs.lemmas.List.{map-append, get_or_append_left, get_or_push, 
 use Rattle.std.proofs.lemmas.List.Elements.{All-push, All-nil, filter-append, Contains-append_right, Contains-append_cases}
 use Rattle.std.specs.List.{range_with_len}
 use Rattle.spie_base.specs.declared.Entry.{Entry}
-use Rattle.hash_family.specs.Entries.{is_marked}
-use Rattle.bloom_page.specs.Sets.{PageSet, set_of}
+use Rattle.bloom_page.specs.Sets.{set_of}
 use Rattle.page_catalogue.specs.Pages.{is_expired}
 use Rattle.page_catalogue.specs.Catalogues.{Catalogued, AreExpired}
 use Rattle.router_account.specs.Ledger.{first_ledger, nothing_unfinished}
@@ -18,54 +17,36 @@ use Rattle.spie_base.proofs.Membership.{has_first, has_none, has_one}
 use Rattle.spie_base.specs.Shapes.{shape_of, AreInRange}
 use Rattle.spie_base.specs.declared.Rules.{Rules}
 use Rattle.spie_base.specs.declared.Sig.{Sig}
-use Rattle.hash_family.specs.Positions.{positions_by}
-use Rattle.hash_family.proofs.PositionFacts.{marks_of-family}
-use Rattle.bloom_page.specs.Sets.{united}
 use Rattle.transform_table.specs.Tables.{rows_of_page, is_of_page}
 use Rattle.spie_base.specs.declared.PageNo.{PageNo}
 use Rattle.packet_signature.specs.declared.Row.{Row}
-use Rattle.router_account.specs.Account.{Account, RowIn, rows_in, fill, page_set, with_entry, with_closing}
+use Rattle.router_account.specs.Account.{Account, RowIn, first_account, rows_in, fill, with_entry, with_closing}
 use Rattle.router_account.specs.Ledger.{Ledger, Unfinished, recorded_in, changed_in, turned_at}
-use Rattle.router_account.proofs.PageSets.{rows_more, rows_other, entry_at, page_set_more, page_set_other, page_set_fresh}
+use Rattle.router_account.proofs.PageSets.{rows_more, rows_other, entry_at, page_set_other, page_set_fresh}
 use Rattle.data_agent.specs.declared.agent.Agent.{Agent}
-use Rattle.data_agent.specs.declared.resident.Resident.{Resident}
 use Rattle.spie_base.specs.declared.types.TheConstants.{N_MOST}
 use Rattle.data_agent.proofs.Counts.{fill_more, fill_most}
 use Rattle.data_agent.specs.Calls.{MayTurn}
-use Rattle.data_agent.specs.Residents.{IsFresh, Records, IsResident}
 use Rattle.bloom_page.specs.Sets.{is_in}
 use Rattle.archive_record.specs.Spelling.{IsRow, IsPlainRow}
 use Rattle.page_catalogue.specs.Pages.{AreAscending}
 use Rattle.router_account.proofs.PageSets.{opened_more, closed_more}
 use Rattle.data_agent.specs.declared.closed_page.ClosedPage.{ClosedPage}
 use Rattle.data_agent.specs.declared.closed_page.Whereabouts.TheVariants.{InMemory}
+use Rattle.data_agent.specs.declared.resident.Resident.{Resident}
+use Rattle.data_agent.specs.Residents.{IsResident}
 use Rattle.data_agent.specs.Calls.{IsNear}
-use Rattle.data_agent.specs.Standing.{AreClosed, AreSpelled, AreTimes, HasNotes, HasPages, IsClock, IsClosed, Stands, StandsFor, StillStands, rows_kept}
-use Rattle.data_agent.proofs.Kept.{Keeps, closed_kept, notes_kept, rows_here, same_put}
+use Rattle.data_agent.specs.Standing.{AreClosed, AreSpelled, AreTimes, HasNotes, HasPages, IsClock, IsClosed, IsKeeping, Stands, StandsAmid, StandsFor, StillStands, rows_kept, standing}
+use Rattle.gate_core.specs.Views.{first_keeper}
+use Rattle.page_gate.specs.Held.{Held, Home, recorded_held}
+use Rattle.page_gate.specs.Slots.{open_page as page_open}
+use Rattle.data_agent.proofs.Keeping.{kept_first, kept_recorded}
+use Rattle.data_agent.proofs.Kept.{Keeps, closed_kept, notes_kept, rows_near, same_put_amid}
 
 -- ---- a record
 
-record_here : (rules : Rules) (a : Account) (page : ℕ) (old new : Resident) (sig : Sig) → IsResident rules a page old → Records old new sig → IsResident rules (with_entry a page sig) page new
-record_here rules a page old new sig is records = record {
-  family = records.family ∙ is.family;
-  page_is = records.page
-      ∙ ap (λ p. united p (positions_by old.family sig)) is.page_is
-      ∙ ap (λ f. united (page_set rules a page) (positions_by f sig)) is.family
-      ∙ ap (united (page_set rules a page)) (sym (marks_of-family (shape_of rules a.router) page sig))
-      ∙ sym (page_set_more rules a.router page a.entries sig);
-}
-
-record_elsewhere : (rules : Rules) (a : Account) (page other : ℕ) (r : Resident) (sig : Sig) → other ≢ page → IsResident rules a page r → IsResident rules (with_entry a other sig) page r
-record_elsewhere rules a page other r sig ne is = record {
-  family = is.family;
-  page_is = is.page_is ∙ sym (page_set_other rules a.router page other a.entries sig ne);
-}
-
-marked_more : (rules : Rules) (a : Account) (page : ℕ) (sig : Sig) (old new : Resident) (before after : ℕ) → rules.n ≤ N_MOST → IsResident rules a page old → IsResident rules (with_entry a page sig) page new
-    → length old.page.members ≤ before → after ≡ min (before + rules.k) (2 ^ 32 - 1) → length new.page.members ≤ after
-marked_more rules a page sig old new before after few was is le at =
-    let old_fill : length old.page.members ≡ fill rules a page = ap (λ s. length s.members) was.page_is in
-    let new_fill : length new.page.members ≡ fill rules (with_entry a page sig) page = ap (λ s. length s.members) is.page_is in
+marked_more : (rules : Rules) (a : Account) (page : ℕ) (sig : Sig) (before after : ℕ) → rules.n ≤ N_MOST → fill rules a page ≤ before → after ≡ min (before + rules.k) (2 ^ 32 - 1) → fill rules (with_entry a page sig) page ≤ after
+marked_more rules a page sig before after few le at =
     let more : fill rules (with_entry a page sig) page ≤ fill rules a page + rules.k = fill_more rules a page sig in
     let most : fill rules (with_entry a page sig) page ≤ 2 ^ 16 = fill_most rules (with_entry a page sig) page few in
     omega arith
@@ -79,15 +60,16 @@ keeps_record rules a sig = record {
   closed_same = λ page lt. refl;
 }
 
-pub recorded : (old : Agent) (opened : Box Resident Global) (marked : ℕ) (rules : Rules) (l : Ledger) (u : Unfinished) (sig : Sig) → StandsFor old rules l u
-    → Records old.opened.value opened.value sig → marked ≡ min (old.marked + old.rules.k) (2 ^ 32 - 1) → StandsFor (record old { opened = opened; marked = marked }) rules (recorded_in l (length l.account.closings) sig) u
-recorded old opened marked rules l u sig s records is =
+pub recorded : (old : Agent) (keeper : Held) (marked : ℕ) (page : PageNo) (rules : Rules) (l : Ledger) (u : Unfinished) (sig : Sig) → StandsFor old rules l u
+    → page.number ≡ page_open old.keeper.view.duties → keeper ≡ recorded_held old.keeper page sig → marked ≡ min (old.marked + old.rules.k) (2 ^ 32 - 1)
+    → StandsFor (record old { keeper = keeper; marked = marked }) rules (recorded_in l (length l.account.closings) sig) u
+recorded old keeper marked page rules l u sig s at is sum =
     let a = l.account in
     let last = length a.closings in
-    let pages = s.stands.pages in
-    let here : IsResident rules (with_entry a last sig) last opened.value = record_here rules a last old.opened.value opened.value sig pages.opened records in
+    let pages = s.amid.pages in
+    let order = pages.keeping.order in
     record {
-      stands = record {
+      amid = record {
         pages = record {
           ranges = pages.ranges;
           router_fits = pages.router_fits;
@@ -99,15 +81,16 @@ recorded old opened marked rules l u sig s records is =
           few = pages.few;
           page = pages.page;
           entered = All-push (λ entry. entry.page.number ≤ last) a.entries (entry_at last sig) pages.entered (omega arith);
-          opened = here;
-          marked = marked_more rules a last sig old.opened.value opened.value old.marked marked pages.ranges.n_most pages.opened here pages.marked (is ∙ ap (λ (r : Rules). min (old.marked + r.k) (2 ^ 32 - 1)) pages.rules_are);
-          count = pages.count;
+          first = pages.first;
+          marked = marked_more rules a last sig old.marked marked pages.ranges.n_most pages.marked (sum ∙ ap (λ (r : Rules). min (old.marked + r.k) (2 ^ 32 - 1)) pages.rules_are);
+          keeping = subst (λ (k : Held). IsKeeping (shape_of rules a.router) k (a.entries ++ entry_at last sig ∷ []) (standing old) last) (sym is)
+              (kept_recorded (shape_of rules a.router) old.keeper a.entries (standing old) last page sig pages.keeping (at ∙ pages.keeping.open_is));
         };
-        closed = closed_kept rules l (with_entry a last sig) old.catalogue.gone old.closed.items (keeps_record rules a sig) (let c = pages.count in omega arith) (λ page put. refl) s.stands.closed;
-        to_come = λ page le. record { unput = (s.stands.to_come page le).unput; uncovered = (s.stands.to_come page le).uncovered };
-        rows = record { table = s.stands.rows.table; spelled = s.stands.rows.spelled };
-        expired = s.stands.expired;
-        clock = s.stands.clock;
+        closed = closed_kept rules l (with_entry a last sig) old.catalogue.gone old.closed.items (keeps_record rules a sig) (omega arith) (λ p put. refl) s.amid.closed;
+        to_come = λ p le. record { unput = (s.amid.to_come p le).unput; uncovered = (s.amid.to_come p le).uncovered };
+        rows = record { table = s.amid.rows.table; spelled = s.amid.rows.spelled };
+        expired = s.amid.expired;
+        clock = s.amid.clock;
       };
       noted = notes_kept rules l (with_entry a last sig) u l.closed_at_archive old.noted (keeps_record rules a sig) s.noted;
     }
@@ -138,9 +121,9 @@ filter_none : (xs : List ℕ) → filter (λ p. false) xs ≡ []
 filter_none [] = refl
 filter_none (x ∷ xs) = filter_none xs
 
-none_marked : (rules : Rules) (router page : ℕ) → set_of rules.n (is_marked (shape_of rules router) [] page) ≡ record { n = rules.n; members = [] }
+none_filled : (rules : Rules) (router : ℕ) → fill rules (first_account router) 0 ≡ 0
 unfolding set_of
-none_marked rules router page = ap (λ members. let s : PageSet = record { n = rules.n; members = members } in s) (filter_none (range_with_len 0 (2 ^ rules.n)))
+none_filled rules router = ap length (filter_none (range_with_len 0 (2 ^ rules.n)))
 
 none_below : (page : ℕ) → nat_lt page 0 ≡ false
 none_below page = le-ltb page 0 (omega arith)
@@ -170,15 +153,16 @@ none_spelled = record { few = omega arith; kinds = All-nil (λ row. IsRow row.ki
 nothing_kept : (gone : ℕ) (router page : ℕ) → [] ≡ rows_kept gone (first_ledger router) page
 nothing_kept gone router page = none_either (nat_lt page gone || false) (rows_in [] page) (no_rows page)
 
-pub started : (agent : Agent) (rules : Rules) (router : ℕ) → AreInRange rules.k rules.n → router < 64 → agent.rules ≡ rules → agent.router.number ≡ router
+pub started : (agent : Agent) (table : Home) (rules : Rules) (router : ℕ) → AreInRange rules.k rules.n → router < 64 → agent.rules ≡ rules → agent.router.number ≡ router
     → agent.catalogue ≡ record { rules = rules; closings = []; places = []; gone = 0; clock = 0; room = agent.catalogue.room }
-    → agent.page.number ≡ 0 → IsFresh rules router 0 agent.opened.value → agent.marked ≡ 0 → agent.closed.items ≡ [] → agent.table ≡ [] → agent.noted ≡ None → StandsFor agent rules (first_ledger router) nothing_unfinished
-started agent rules router ranges fits rules_are router_is catalogue page fresh marked items none_added none_noted =
-    let empty : length agent.opened.value.page.members ≡ 0 = ap (λ s. length s.members) fresh.empty in
+    → agent.page.number ≡ 0 → agent.earliest ≡ 0 → agent.keeper ≡ record { table = table; view = first_keeper } → agent.marked ≡ 0 → agent.closed.items ≡ [] → agent.table ≡ [] → agent.noted ≡ None → StandsFor agent rules (first_ledger router) nothing_unfinished
+started agent table rules router ranges fits rules_are router_is catalogue page first keeper marked items none_added none_noted =
+    let empty : fill rules (first_account router) 0 ≡ 0 = none_filled rules router in
     let gone : agent.catalogue.gone ≡ 0 = ap (λ (c : Catalogued). c.gone) catalogue in
     let none : length agent.closed.items ≡ 0 = ap length items in
+    let here : standing agent ≡ 0 = omega arith in
     record {
-      stands = record {
+      amid = record {
         pages = record {
           ranges = ranges;
           router_fits = fits;
@@ -190,9 +174,9 @@ started agent rules router ranges fits rules_are router_is catalogue page fresh 
           few = lit< tt;
           page = page;
           entered = λ k d lt. absurd (omega arith);
-          opened = record { family = fresh.family; page_is = fresh.empty ∙ sym (none_marked rules router 0) };
+          first = first ∙ sym gone;
           marked = omega arith;
-          count = omega arith;
+          keeping = subst (λ (n : ℕ). IsKeeping (shape_of rules router) agent.keeper [] n 0) (sym here) (subst (λ (k : Held). IsKeeping (shape_of rules router) k [] 0 0) (sym keeper) (kept_first (shape_of rules router) table));
         };
         closed = λ i d lt. absurd (omega arith);
         to_come = λ page le. record { unput = refl; uncovered = refl };
@@ -208,13 +192,7 @@ started agent rules router ranges fits rules_are router_is catalogue page fresh 
 
 -- ---- a closing
 
-fresh_resident : (rules : Rules) (a : Account) (page : ℕ) (r : Resident) → All (λ entry. entry.page.number ≤ length a.closings) a.entries → length a.closings < page → IsFresh rules a.router page r → IsResident rules a page r
-fresh_resident rules a page r entered past fresh = record {
-  family = fresh.family;
-  page_is = fresh.empty ∙ sym (page_set_fresh rules a.router page (length a.closings) a.entries entered past);
-}
-
-closed_more_page : (rules : Rules) (l : Ledger) (first : ℕ) (pages : List ClosedPage) (more : ClosedPage) → AreClosed rules l first pages
+pub closed_more_page : (rules : Rules) (l : Ledger) (first : ℕ) (pages : List ClosedPage) (more : ClosedPage) → AreClosed rules l first pages
     → IsClosed rules l (first + length pages) more → AreClosed rules l first (pages ++ more ∷ [])
 closed_more_page rules l first pages more each last i d lt =
     elim (cases_lt i (length pages)) [
@@ -262,19 +240,20 @@ times_more closings clock times late fits = record {
   ];
 }
 
+-- nothing was recorded yet in a page to come
+fresh_fill : (rules : Rules) (a : Account) (page : ℕ) → All (λ entry. entry.page.number ≤ length a.closings) a.entries → length a.closings < page → fill rules a page ≡ 0
+fresh_fill rules a page entered past = ap (λ s. length s.members) (page_set_fresh rules a.router page (length a.closings) a.entries entered past)
+
 pub pages_turned : (old new : Agent) (rules : Rules) (a : Account) (clock : ℕ) → HasPages old rules a → length old.catalogue.closings + 1 < 2 ^ 32 - 1 → AreTimes (old.catalogue.closings ++ clock ∷ [])
     → new.rules ≡ old.rules → new.router ≡ old.router → new.catalogue.rules ≡ old.catalogue.rules → new.catalogue.closings ≡ old.catalogue.closings ++ clock ∷ [] → new.catalogue.gone ≡ old.catalogue.gone
-    → new.page.number ≡ length old.catalogue.closings + 1 → new.marked ≡ 0 → length new.closed.items ≡ length old.closed.items + 1 → IsFresh old.rules old.router.number (old.page.number + 1) new.opened.value
-    → HasPages new rules (with_closing a clock)
-pages_turned old new rules a clock s room times same_rules same_router same_by closings gone page marked longer fresh =
-    let empty : length new.opened.value.page.members ≡ 0 = ap (λ s. length s.members) fresh.empty in
+    → new.page.number ≡ length old.catalogue.closings + 1 → new.earliest ≡ old.earliest → new.marked ≡ 0 → new.closed.items ≡ old.closed.items
+    → IsKeeping (shape_of rules a.router) new.keeper a.entries (standing old) (length a.closings + 1) → HasPages new rules (with_closing a clock)
+pages_turned old new rules a clock s room times same_rules same_router same_by closings gone page first marked items keeping =
     let same : length old.catalogue.closings ≡ length a.closings = ap length s.closings in
     let more : length (a.closings ++ clock ∷ []) ≡ length a.closings + 1 = closings_more a clock in
-    let here : old.page.number + 1 ≡ length (a.closings ++ clock ∷ []) = ap (λ n. n + 1) s.page ∙ sym more in
-    let fresh_by : IsFresh rules old.router.number (old.page.number + 1) new.opened.value = subst (λ r. IsFresh r old.router.number (old.page.number + 1) new.opened.value) s.rules_are fresh in
-    let fresh_of : IsFresh rules a.router (old.page.number + 1) new.opened.value = subst (λ r. IsFresh rules r (old.page.number + 1) new.opened.value) s.router fresh_by in
-    let fresh_at : IsFresh rules a.router (length (a.closings ++ clock ∷ [])) new.opened.value = subst (λ n. IsFresh rules a.router n new.opened.value) here fresh_of in
-    let count : old.catalogue.gone + length old.closed.items ≡ length a.closings = s.count in
+    let empty : fill rules a (length (a.closings ++ clock ∷ [])) ≡ 0 = fresh_fill rules a (length (a.closings ++ clock ∷ [])) s.entered (omega arith) in
+    let len : length new.closed.items ≡ length old.closed.items = ap length items in
+    let here : standing old ≡ standing new = omega arith in
     record {
       ranges = s.ranges;
       router_fits = s.router_fits;
@@ -286,9 +265,9 @@ pages_turned old new rules a clock s room times same_rules same_router same_by c
       few = omega arith;
       page = page ∙ ap (λ n. n + 1) same ∙ sym more;
       entered = entered_more a.entries (length a.closings) (length (a.closings ++ clock ∷ [])) (omega arith) s.entered;
-      opened = (let f = fresh_resident rules a (length (a.closings ++ clock ∷ [])) new.opened.value s.entered (omega arith) fresh_at in record { family = f.family; page_is = f.page_is });
+      first = first ∙ s.first ∙ sym gone;
       marked = omega arith;
-      count = omega arith;
+      keeping = subst (λ (n : ℕ). IsKeeping (shape_of rules a.router) new.keeper a.entries n (length (a.closings ++ clock ∷ []))) here (subst (λ (n : ℕ). IsKeeping (shape_of rules a.router) new.keeper a.entries (standing old) n) (sym more) keeping);
     }
 
 pub keeps_closing : (rules : Rules) (a : Account) (clock : ℕ) → Keeps rules a (with_closing a clock)
@@ -303,37 +282,30 @@ keeps_closing rules a clock = record {
 -- the times of closings and one more
 pub times_turned : (agent : Agent) (clock : ℕ) → MayTurn (StandsFor agent) clock → AreTimes (agent.catalogue.closings ++ clock ∷ [])
 times_turned agent clock (rules, l, u, s, late, room) =
-    subst (λ xs. AreTimes (xs ++ clock ∷ [])) (sym s.stands.pages.closings) (times_more l.account.closings clock s.stands.pages.times late.closings late.fits)
+    subst (λ xs. AreTimes (xs ++ clock ∷ [])) (sym s.amid.pages.closings) (times_more l.account.closings clock s.amid.pages.times late.closings late.fits)
 
 pub turned : (old new : Agent) (rules : Rules) (l : Ledger) (u : Unfinished) (clock : ℕ) → StandsFor old rules l u → length old.catalogue.closings + 1 < 2 ^ 32 - 1 → AreTimes (old.catalogue.closings ++ clock ∷ [])
     → new.rules ≡ old.rules → new.router ≡ old.router → new.catalogue.rules ≡ old.catalogue.rules → new.catalogue.closings ≡ old.catalogue.closings ++ clock ∷ [] → new.catalogue.gone ≡ old.catalogue.gone → new.catalogue.clock ≡ clock
-    → new.page.number ≡ length old.catalogue.closings + 1 → new.marked ≡ 0 → new.closed.items ≡ old.closed.items ++ (let c : ClosedPage = record { place = InMemory old.opened; covered = false } in c) ∷ [] → IsFresh old.rules old.router.number (old.page.number + 1) new.opened.value
+    → new.page.number ≡ length old.catalogue.closings + 1 → new.earliest ≡ old.earliest → new.marked ≡ 0 → new.closed.items ≡ old.closed.items
+    → IsKeeping (shape_of rules l.account.router) new.keeper l.account.entries (standing old) (length l.account.closings + 1)
     → new.table ≡ old.table → new.noted ≡ old.noted → StandsFor new rules (turned_at l clock) u
-turned old new rules l u clock s room times same_rules same_router same_by closings gone at page marked items fresh table noted =
+turned old new rules l u clock s room times same_rules same_router same_by closings gone at page first marked items keeping table noted =
     let a = l.account in
-    let pages = s.stands.pages in
-    let last : ClosedPage = record { place = InMemory old.opened; covered = false } in
     let keeps = keeps_closing rules a clock in
-    let end = length a.closings in
-    let count : old.catalogue.gone + length old.closed.items ≡ end = pages.count in
+    let order = s.amid.pages.keeping.order in
+    let len : length new.closed.items ≡ length old.closed.items = ap length items in
     let kept : AreClosed rules (turned_at l clock) old.catalogue.gone old.closed.items =
-    closed_kept rules l (with_closing a clock) old.catalogue.gone old.closed.items keeps (omega arith) (λ page put. refl) s.stands.closed in
-    let here : IsClosed rules (turned_at l clock) end last = record {
-      covered = sym (s.stands.to_come end (omega arith)).uncovered;
-      placed = ((s.stands.to_come end (omega arith)).unput, record { family = pages.opened.family; page_is = pages.opened.page_is });
-    } in
-    let all : AreClosed rules (turned_at l clock) old.catalogue.gone (old.closed.items ++ last ∷ []) =
-    closed_more_page rules (turned_at l clock) old.catalogue.gone old.closed.items last kept (subst (λ n. IsClosed rules (turned_at l clock) n last) (sym count) here) in
+    closed_kept rules l (with_closing a clock) old.catalogue.gone old.closed.items keeps (omega arith) (λ page put. refl) s.amid.closed in
     record {
-      stands = record {
-        pages = pages_turned old new rules a clock pages room times same_rules same_router same_by closings gone page marked (ap length items ∙ length-append old.closed.items (last ∷ [])) fresh;
-        closed = subst (λ xs. AreClosed rules (turned_at l clock) new.catalogue.gone xs) (sym items) (subst (λ g. AreClosed rules (turned_at l clock) g (old.closed.items ++ last ∷ [])) (sym gone) all);
-        to_come = λ p le. let e = closings_more a clock in let t = s.stands.to_come p (omega arith) in record { unput = t.unput; uncovered = t.uncovered };
+      amid = record {
+        pages = pages_turned old new rules a clock s.amid.pages room times same_rules same_router same_by closings gone page first marked items keeping;
+        closed = subst (λ xs. AreClosed rules (turned_at l clock) new.catalogue.gone xs) (sym items) (subst (λ g. AreClosed rules (turned_at l clock) g old.closed.items) (sym gone) kept);
+        to_come = λ p le. let t = s.amid.to_come p (omega arith) in record { unput = t.unput; uncovered = t.uncovered };
         rows = record {
-          table = λ p. ap (rows_of_page p) table ∙ s.stands.rows.table p ∙ ap (λ g. rows_kept g l p) (sym gone);
-          spelled = λ p le. s.stands.rows.spelled p (omega arith);
+          table = λ p. ap (rows_of_page p) table ∙ s.amid.rows.table p ∙ ap (λ g. rows_kept g l p) (sym gone);
+          spelled = λ p le. s.amid.rows.spelled p (omega arith);
         };
-        expired = subst (λ g. AreExpired rules l.closings_then l.clock_then g) (sym gone) s.stands.expired;
+        expired = subst (λ g. AreExpired rules l.closings_then l.clock_then g) (sym gone) s.amid.expired;
         clock = λ later then times. let le : clock ≤ later = times clock (Contains-append_right l.account.closings (clock ∷ []) clock (has_first clock [])) in omega arith;
       };
       noted = subst (HasNotes rules (turned_at l clock) u l.closed_at_archive) (sym noted) (notes_kept rules l (with_closing a clock) u l.closed_at_archive old.noted keeps s.noted);
@@ -341,10 +313,12 @@ turned old new rules l u clock s room times same_rules same_router same_by closi
 
 -- ---- nothing changes but what there is room for
 
-pub pages_same : (old new : Agent) (rules : Rules) (a : Account) → HasPages old rules a
-    → new.rules ≡ old.rules → new.router ≡ old.router → new.page ≡ old.page → new.opened ≡ old.opened → new.marked ≡ old.marked → length new.closed.items ≡ length old.closed.items
-    → new.catalogue.rules ≡ old.catalogue.rules → new.catalogue.closings ≡ old.catalogue.closings → new.catalogue.gone ≡ old.catalogue.gone → HasPages new rules a
-pages_same old new rules a s same_rules same_router page opened marked len by closings gone =
+-- the keeper may have noted reads and collected pages
+pub pages_with : (old new : Agent) (rules : Rules) (a : Account) → HasPages old rules a
+    → new.rules ≡ old.rules → new.router ≡ old.router → new.page ≡ old.page → new.earliest ≡ new.catalogue.gone → fill rules a (length a.closings) ≤ new.marked
+    → new.catalogue.rules ≡ old.catalogue.rules → new.catalogue.closings ≡ old.catalogue.closings
+    → IsKeeping (shape_of rules a.router) new.keeper a.entries (standing new) (length a.closings) → HasPages new rules a
+pages_with old new rules a s same_rules same_router page first marked by closings keeping =
     record {
       ranges = s.ranges;
       router_fits = s.router_fits;
@@ -356,56 +330,136 @@ pages_same old new rules a s same_rules same_router page opened marked len by cl
       few = s.few;
       page = ap (λ p. p.number) page ∙ s.page;
       entered = s.entered;
-      opened = subst (λ (b : Box Resident Global). IsResident rules a (length a.closings) b.value) (sym opened) s.opened;
-      marked = let m = s.marked in let e : length new.opened.value.page.members ≡ length old.opened.value.page.members = ap (λ (b : Box Resident Global). length b.value.page.members) opened in omega arith;
-      count = let c = s.count in omega arith;
+      first = first;
+      marked = marked;
+      keeping = keeping;
     }
 
-pub stands_same : (old new : Agent) (rules : Rules) (l : Ledger) → Stands old rules l
-    → new.rules ≡ old.rules → new.router ≡ old.router → new.page ≡ old.page → new.opened ≡ old.opened → new.marked ≡ old.marked → new.closed.items ≡ old.closed.items
-    → new.catalogue.rules ≡ old.catalogue.rules → new.catalogue.closings ≡ old.catalogue.closings → new.catalogue.gone ≡ old.catalogue.gone → new.catalogue.clock ≡ old.catalogue.clock → new.table ≡ old.table → Stands new rules l
-stands_same old new rules l s same_rules same_router page opened marked items by closings gone clock table = record {
-  pages = pages_same old new rules l.account s.pages same_rules same_router page opened marked (ap length items) by closings gone;
-  closed = subst (λ xs. AreClosed rules l new.catalogue.gone xs) (sym items) (subst (λ g. AreClosed rules l g old.closed.items) (sym gone) s.closed);
-  to_come = s.to_come;
-  rows = record {
-    table = λ p. ap (rows_of_page p) table ∙ s.rows.table p ∙ ap (λ g. rows_kept g l p) (sym gone);
-    spelled = λ p le. s.rows.spelled p (omega arith);
-  };
-  expired = subst (λ g. AreExpired rules l.closings_then l.clock_then g) (sym gone) s.expired;
-  clock = subst (IsClock l) (sym clock) s.clock;
-}
+pub pages_same : (old new : Agent) (rules : Rules) (a : Account) → HasPages old rules a
+    → new.rules ≡ old.rules → new.router ≡ old.router → new.page ≡ old.page → new.earliest ≡ old.earliest → new.keeper ≡ old.keeper → new.marked ≡ old.marked → length new.closed.items ≡ length old.closed.items
+    → new.catalogue.rules ≡ old.catalogue.rules → new.catalogue.closings ≡ old.catalogue.closings → new.catalogue.gone ≡ old.catalogue.gone → HasPages new rules a
+pages_same old new rules a s same_rules same_router page first keeper marked len by closings gone =
+    let here : standing old ≡ standing new = omega arith in
+    pages_with old new rules a s same_rules same_router page (first ∙ s.first ∙ sym gone) (let m = s.marked in omega arith) by closings
+    (subst (λ (n : ℕ). IsKeeping (shape_of rules a.router) new.keeper a.entries n (length a.closings)) here (subst (λ (k : Held). IsKeeping (shape_of rules a.router) k a.entries (standing old) (length a.closings)) (sym keeper) s.keeping))
 
-pub still : (old new : Agent) → new.rules ≡ old.rules → new.router ≡ old.router → new.page ≡ old.page → new.opened ≡ old.opened → new.marked ≡ old.marked → new.closed.items ≡ old.closed.items
+-- the keeper may have noted something
+pub amid_then : (old new : Agent) (rules : Rules) (l : Ledger) → StandsAmid old rules l
+    → new.rules ≡ old.rules → new.router ≡ old.router → new.page ≡ old.page → new.earliest ≡ old.earliest → new.marked ≡ old.marked → new.closed.items ≡ old.closed.items → new.catalogue ≡ old.catalogue → new.table ≡ old.table
+    → (IsKeeping (shape_of rules l.account.router) old.keeper l.account.entries (standing old) (length l.account.closings) → IsKeeping (shape_of rules l.account.router) new.keeper l.account.entries (standing old) (length l.account.closings))
+    → StandsAmid new rules l
+amid_then old new rules l s same_rules same_router page first marked items catalogue table kept =
+    let gone : new.catalogue.gone ≡ old.catalogue.gone = ap (λ (c : Catalogued). c.gone) catalogue in
+    let len : length new.closed.items ≡ length old.closed.items = ap length items in
+    let here : standing old ≡ standing new = omega arith in
+    record {
+      pages = pages_with old new rules l.account s.pages same_rules same_router page (first ∙ s.pages.first ∙ sym gone) (let m = s.pages.marked in omega arith) (ap (λ (c : Catalogued). c.rules) catalogue) (ap (λ (c : Catalogued). c.closings) catalogue)
+          (subst (λ (n : ℕ). IsKeeping (shape_of rules l.account.router) new.keeper l.account.entries n (length l.account.closings)) here (kept s.pages.keeping));
+      closed = subst (λ xs. AreClosed rules l new.catalogue.gone xs) (sym items) (subst (λ g. AreClosed rules l g old.closed.items) (sym gone) s.closed);
+      to_come = λ p le. s.to_come p (omega arith);
+      rows = record {
+        table = λ p. ap (rows_of_page p) table ∙ s.rows.table p ∙ ap (λ g. rows_kept g l p) (sym gone);
+        spelled = λ p le. s.rows.spelled p (omega arith);
+      };
+      expired = subst (λ g. AreExpired rules l.closings_then l.clock_then g) (sym gone) s.expired;
+      clock = subst (λ (c : Catalogued). IsClock l c.clock) (sym catalogue) s.clock;
+    }
+
+pub items_then : (xs ys zs : List ClosedPage) (x : ClosedPage) → zs ≡ ys ++ x ∷ [] → ys ≡ xs → zs ≡ xs ++ x ∷ []
+items_then xs ys zs x more same = more ∙ ap (λ ws. ws ++ x ∷ []) same
+
+-- the page that stands in a slot longest was collected
+pub taken_in : (old new : Agent) (rules : Rules) (l : Ledger) (r : Resident) → StandsAmid old rules l
+    → new.rules ≡ old.rules → new.router ≡ old.router → new.page ≡ old.page → new.earliest ≡ old.earliest → new.marked ≡ old.marked → new.catalogue ≡ old.catalogue → new.table ≡ old.table
+    → new.closed.items ≡ old.closed.items ++ (let c : ClosedPage = record { place = InMemory r; covered = false } in c) ∷ []
+    → IsResident rules l.account (standing old) r → IsKeeping (shape_of rules l.account.router) new.keeper l.account.entries (standing old + 1) (length l.account.closings) → StandsAmid new rules l
+taken_in old new rules l r s same_rules same_router page first marked catalogue table items is kept =
+    let gone : new.catalogue.gone ≡ old.catalogue.gone = ap (λ (c : Catalogued). c.gone) catalogue in
+    let last : ClosedPage = record { place = InMemory r; covered = false } in
+    let len : length new.closed.items ≡ length old.closed.items + 1 = ap length items ∙ length-append old.closed.items (last ∷ []) in
+    let here : standing old + 1 ≡ standing new = omega arith in
+    let none = s.to_come (standing old) (omega arith) in
+    let all : AreClosed rules l old.catalogue.gone (old.closed.items ++ last ∷ []) = closed_more_page rules l old.catalogue.gone old.closed.items last s.closed (record { covered = sym none.uncovered; placed = (none.unput, is) }) in
+    record {
+      pages = pages_with old new rules l.account s.pages same_rules same_router page (first ∙ s.pages.first ∙ sym gone) (let m = s.pages.marked in omega arith) (ap (λ (c : Catalogued). c.rules) catalogue) (ap (λ (c : Catalogued). c.closings) catalogue)
+          (subst (λ (n : ℕ). IsKeeping (shape_of rules l.account.router) new.keeper l.account.entries n (length l.account.closings)) here kept);
+      closed = subst (λ xs. AreClosed rules l new.catalogue.gone xs) (sym items) (subst (λ g. AreClosed rules l g (old.closed.items ++ last ∷ [])) (sym gone) all);
+      to_come = λ p le. s.to_come p (omega arith);
+      rows = record {
+        table = λ p. ap (rows_of_page p) table ∙ s.rows.table p ∙ ap (λ g. rows_kept g l p) (sym gone);
+        spelled = λ p le. s.rows.spelled p (omega arith);
+      };
+      expired = subst (λ g. AreExpired rules l.closings_then l.clock_then g) (sym gone) s.expired;
+      clock = subst (λ (c : Catalogued). IsClock l c.clock) (sym catalogue) s.clock;
+    }
+
+pub amid_same : (old new : Agent) (rules : Rules) (l : Ledger) → StandsAmid old rules l
+    → new.rules ≡ old.rules → new.router ≡ old.router → new.page ≡ old.page → new.earliest ≡ old.earliest → new.keeper ≡ old.keeper → new.marked ≡ old.marked → new.closed.items ≡ old.closed.items
+    → new.catalogue.rules ≡ old.catalogue.rules → new.catalogue.closings ≡ old.catalogue.closings → new.catalogue.gone ≡ old.catalogue.gone → new.catalogue.clock ≡ old.catalogue.clock → new.table ≡ old.table → StandsAmid new rules l
+amid_same old new rules l s same_rules same_router page first keeper marked items by closings gone clock table =
+    let len : length new.closed.items ≡ length old.closed.items = ap length items in
+    record {
+      pages = pages_same old new rules l.account s.pages same_rules same_router page first keeper marked len by closings gone;
+      closed = subst (λ xs. AreClosed rules l new.catalogue.gone xs) (sym items) (subst (λ g. AreClosed rules l g old.closed.items) (sym gone) s.closed);
+      to_come = λ p le. s.to_come p (omega arith);
+      rows = record {
+        table = λ p. ap (rows_of_page p) table ∙ s.rows.table p ∙ ap (λ g. rows_kept g l p) (sym gone);
+        spelled = λ p le. s.rows.spelled p (omega arith);
+      };
+      expired = subst (λ g. AreExpired rules l.closings_then l.clock_then g) (sym gone) s.expired;
+      clock = subst (IsClock l) (sym clock) s.clock;
+    }
+
+-- the same where every closed page has left its slot
+pub stands_same : (old new : Agent) (rules : Rules) (l : Ledger) → Stands old rules l
+    → new.rules ≡ old.rules → new.router ≡ old.router → new.page ≡ old.page → new.earliest ≡ old.earliest → new.keeper ≡ old.keeper → new.marked ≡ old.marked → new.closed.items ≡ old.closed.items
+    → new.catalogue.rules ≡ old.catalogue.rules → new.catalogue.closings ≡ old.catalogue.closings → new.catalogue.gone ≡ old.catalogue.gone → new.catalogue.clock ≡ old.catalogue.clock → new.table ≡ old.table → Stands new rules l
+stands_same old new rules l s same_rules same_router page first keeper marked items by closings gone clock table =
+    let len : length new.closed.items ≡ length old.closed.items = ap length items in
+    let count = s.count in
+    record {
+      pages = pages_same old new rules l.account s.pages same_rules same_router page first keeper marked len by closings gone;
+      count = omega arith;
+      closed = subst (λ xs. AreClosed rules l new.catalogue.gone xs) (sym items) (subst (λ g. AreClosed rules l g old.closed.items) (sym gone) s.closed);
+      to_come = s.to_come;
+      rows = record {
+        table = λ p. ap (rows_of_page p) table ∙ s.rows.table p ∙ ap (λ g. rows_kept g l p) (sym gone);
+        spelled = λ p le. s.rows.spelled p (omega arith);
+      };
+      expired = subst (λ g. AreExpired rules l.closings_then l.clock_then g) (sym gone) s.expired;
+      clock = subst (IsClock l) (sym clock) s.clock;
+    }
+
+pub still : (old new : Agent) → new.rules ≡ old.rules → new.router ≡ old.router → new.page ≡ old.page → new.earliest ≡ old.earliest → new.keeper ≡ old.keeper → new.marked ≡ old.marked → new.closed.items ≡ old.closed.items
     → new.catalogue ≡ record old.catalogue { room = new.catalogue.room } → new.table ≡ old.table → new.noted ≡ old.noted → StillStands old new
-still old new same_rules same_router page opened marked items same table noted rules l u s = record {
-  stands = stands_same old new rules l s.stands same_rules same_router page opened marked items
+still old new same_rules same_router page first keeper marked items same table noted rules l u s = record {
+  amid = amid_same old new rules l s.amid same_rules same_router page first keeper marked items
       (ap (λ (x : Catalogued). x.rules) same) (ap (λ (x : Catalogued). x.closings) same) (ap (λ (x : Catalogued). x.gone) same) (ap (λ (x : Catalogued). x.clock) same) table;
   noted = subst (HasNotes rules l u l.closed_at_archive) (sym noted) s.noted;
 }
 
 -- one page more has a number
 pub has_room : (agent : Agent) (clock : ℕ) → MayTurn (StandsFor agent) clock → length agent.catalogue.closings + 1 < 2 ^ 32 - 1
-has_room agent clock (rules, l, u, s, late, room) = let e : length agent.catalogue.closings ≡ length l.account.closings = ap length s.stands.pages.closings in omega arith
+has_room agent clock (rules, l, u, s, late, room) = let e : length agent.catalogue.closings ≡ length l.account.closings = ap length s.amid.pages.closings in omega arith
 
 -- ---- a row more
 
 -- what a new row needs, by the agent
 pub record Takes (agent : Agent) (page : ℕ) (row : Row) : Type 0 where
   pub near : agent.catalogue.gone ≤ page
-  pub unput : (rules : Rules) (l : Ledger) → Stands agent rules l → is_in l.put_before page ≡ false
+  pub unput : (rules : Rules) (l : Ledger) → StandsAmid agent rules l → is_in l.put_before page ≡ false
   pub few : length (rows_of_page page agent.table) < 1000000
   pub kind : IsRow row.kind row.old
   pub plain : IsPlainRow row
 
 pub takes : (agent : Agent) (page : ℕ) (row : Row) → ((rules : Rules) × (l : Ledger) × (u : Unfinished) × StandsFor agent rules l u × IsNear rules l page row) → IsPlainRow row → Takes agent page row
 takes agent page row (rules, l, u, s, near) plain =
-    let from : agent.catalogue.gone ≤ page = ltb-false page agent.catalogue.gone (s.stands.expired page ∙ near.live) in
+    let from : agent.catalogue.gone ≤ page = ltb-false page agent.catalogue.gone (s.amid.expired page ∙ near.live) in
     let unput : is_in l.put_before page ≡ false = is_in-none l.put_before page near.unput in
     record {
       near = from;
-      unput = λ other m t. same_put agent other rules m l page t s.stands from ∙ unput;
-      few = let e : length (rows_of_page page agent.table) ≡ length (rows_in l.account.rows page) = ap length (rows_here agent rules l page s.stands from unput) in let f = near.few in omega arith;
+      unput = λ other m t. same_put_amid agent other rules m l page t s.amid from ∙ unput;
+      few = let e : length (rows_of_page page agent.table) ≡ length (rows_in l.account.rows page) = ap length (rows_near agent l page s.amid.rows from unput) in let f = near.few in omega arith;
       kind = near.kind;
       plain = plain;
     }
@@ -416,7 +470,7 @@ one_kept true false rows row apart = refl
 one_kept false here rows row apart = refl
 
 -- a page whose rows the table does not have is no page that is near
-apart_at : (agent : Agent) (rules : Rules) (l : Ledger) (page : ℕ) (row : Row) (other : ℕ) → Stands agent rules l → Takes agent page row → (nat_lt other agent.catalogue.gone || is_in l.put_before other) ≡ true → (page == other) ≡ false
+apart_at : (agent : Agent) (rules : Rules) (l : Ledger) (page : ℕ) (row : Row) (other : ℕ) → StandsAmid agent rules l → Takes agent page row → (nat_lt other agent.catalogue.gone || is_in l.put_before other) ≡ true → (page == other) ≡ false
 apart_at agent rules l page row other s near gone = ne_eqb page other (λ e. false≢true
     (sym (none_holds (nat_lt other agent.catalogue.gone) (is_in l.put_before other) (le-ltb other agent.catalogue.gone (let n = near.near in omega arith)) (subst (λ p. is_in l.put_before p ≡ false) e (near.unput rules l s))) ∙ gone))
 
@@ -428,30 +482,31 @@ spelled_more rows row true few kind plain s = record {
 }
 spelled_more rows row false few kind plain s = subst AreSpelled (sym (append-nil rows)) s
 
-rows_changed : (agent : Agent) (rules : Rules) (l : Ledger) (page other : ℕ) (row : Row) → Stands agent rules l → Takes agent page row → is_in l.put_before other ≡ true → rows_in (l.account.rows ++ record { page = page; row = row } ∷ []) other ≡ rows_in l.account.rows other
+rows_changed : (agent : Agent) (rules : Rules) (l : Ledger) (page other : ℕ) (row : Row) → StandsAmid agent rules l → Takes agent page row → is_in l.put_before other ≡ true → rows_in (l.account.rows ++ record { page = page; row = row } ∷ []) other ≡ rows_in l.account.rows other
 rows_changed agent rules l page other row s near put = rows_other l.account.rows other page row (λ e. false≢true (sym (near.unput rules l s) ∙ subst (λ p. is_in l.put_before p ≡ true) (sym e) put))
 
 keeps_row : (rules : Rules) (a : Account) (page : ℕ) (row : Row) → Keeps rules a (with_row a page row)
 keeps_row rules a page row = record { router = refl; longer = omega arith; bits = λ page lt. refl; opened_same = λ page lt. refl; closed_same = λ page lt. refl }
 
-few_at : (agent : Agent) (rules : Rules) (l : Ledger) (page : ℕ) (row : Row) (other : ℕ) → Stands agent rules l → Takes agent page row → page ≡ other → length (rows_in l.account.rows other) < 1000000
+few_at : (agent : Agent) (rules : Rules) (l : Ledger) (page : ℕ) (row : Row) (other : ℕ) → StandsAmid agent rules l → Takes agent page row → page ≡ other → length (rows_in l.account.rows other) < 1000000
 few_at agent rules l page row other s near e =
-    let here : length (rows_of_page page agent.table) ≡ length (rows_in l.account.rows page) = ap length (rows_here agent rules l page s near.near (near.unput rules l s)) in
+    let here : length (rows_of_page page agent.table) ≡ length (rows_in l.account.rows page) = ap length (rows_near agent l page s.rows near.near (near.unput rules l s)) in
     let few = near.few in
     subst (λ p. length (rows_in l.account.rows p) < 1000000) e (omega arith)
 
 pub changed : (old new : Agent) (rules : Rules) (l : Ledger) (u : Unfinished) (page : PageNo) (row : Row) → StandsFor old rules l u → Takes old page.number row
-    → new.rules ≡ old.rules → new.router ≡ old.router → new.page ≡ old.page → new.opened ≡ old.opened → new.marked ≡ old.marked → new.closed ≡ old.closed → new.catalogue ≡ old.catalogue → new.noted ≡ old.noted
+    → new.rules ≡ old.rules → new.router ≡ old.router → new.page ≡ old.page → new.earliest ≡ old.earliest → new.keeper ≡ old.keeper → new.marked ≡ old.marked → new.closed ≡ old.closed → new.catalogue ≡ old.catalogue → new.noted ≡ old.noted
     → new.table ≡ old.table ++ (page, row) ∷ [] → StandsFor new rules (changed_in l page.number row) u
-changed old new rules l u page row s near same_rules same_router same_page opened marked closed catalogue noted table =
-    let same : HasPages new rules l.account = pages_same old new rules l.account s.stands.pages same_rules same_router same_page opened marked (ap (λ c. length c.items) closed)
+changed old new rules l u page row s near same_rules same_router same_page first keeper marked closed catalogue noted table =
+    let same : HasPages new rules l.account = pages_same old new rules l.account s.amid.pages same_rules same_router same_page first keeper marked (ap (λ c. length c.items) closed)
     (ap (λ (c : Catalogued). c.rules) catalogue) (ap (λ (c : Catalogued). c.closings) catalogue) (ap (λ (c : Catalogued). c.gone) catalogue) in
     let gone : new.catalogue.gone ≡ old.catalogue.gone = ap (λ (c : Catalogued). c.gone) catalogue in
+    let len : length new.closed.items ≡ length old.closed.items = ap (λ c. length c.items) closed in
     let keeps = keeps_row rules l.account page.number row in
     let kept : AreClosed rules (changed_in l page.number row) old.catalogue.gone old.closed.items =
-    closed_kept rules l (with_row l.account page.number row) old.catalogue.gone old.closed.items keeps (let c = s.stands.pages.count in omega arith) (λ other put. rows_changed old rules l page.number other row s.stands near put) s.stands.closed in
+    closed_kept rules l (with_row l.account page.number row) old.catalogue.gone old.closed.items keeps (let c = s.amid.pages.keeping.order in omega arith) (λ other put. rows_changed old rules l page.number other row s.amid near put) s.amid.closed in
     record {
-      stands = record {
+      amid = record {
         pages = record {
           ranges = same.ranges;
           router_fits = same.router_fits;
@@ -463,30 +518,30 @@ changed old new rules l u page row s near same_rules same_router same_page opene
           few = same.few;
           page = same.page;
           entered = same.entered;
-          opened = record { family = same.opened.family; page_is = same.opened.page_is };
+          first = same.first;
           marked = same.marked;
-          count = same.count;
+          keeping = same.keeping;
         };
         closed = subst (λ (c : Catalogued). AreClosed rules (changed_in l page.number row) c.gone new.closed.items) (sym catalogue) (subst (λ xs. AreClosed rules (changed_in l page.number row) old.catalogue.gone xs) (sym (ap (λ c. c.items) closed)) kept);
-        to_come = λ p le. record { unput = (s.stands.to_come p le).unput; uncovered = (s.stands.to_come p le).uncovered };
+        to_come = λ p le. let t = s.amid.to_come p (omega arith) in record { unput = t.unput; uncovered = t.uncovered };
         rows = record {
-          table = λ p. ap (rows_of_page p) table ∙ one_added old.table page row p ∙ ap (λ xs. xs ++ cond (page.number == p) (row ∷ []) []) (s.stands.rows.table p)
-              ∙ one_kept (nat_lt p old.catalogue.gone || is_in l.put_before p) (page.number == p) (rows_in l.account.rows p) row (apart_at old rules l page.number row p s.stands near)
+          table = λ p. ap (rows_of_page p) table ∙ one_added old.table page row p ∙ ap (λ xs. xs ++ cond (page.number == p) (row ∷ []) []) (s.amid.rows.table p)
+              ∙ one_kept (nat_lt p old.catalogue.gone || is_in l.put_before p) (page.number == p) (rows_in l.account.rows p) row (apart_at old rules l page.number row p s.amid near)
               ∙ ap (λ xs. cond (nat_lt p old.catalogue.gone || is_in l.put_before p) [] xs) (sym (one_changed l.account.rows page.number row p))
               ∙ ap (λ g. rows_kept g (changed_in l page.number row) p) (sym gone);
           spelled = λ p le. subst AreSpelled (sym (one_changed l.account.rows page.number row p))
-              (spelled_more (rows_in l.account.rows p) row (page.number == p) (λ e. few_at old rules l page.number row p s.stands near (eqb-true page.number p e)) near.kind near.plain (s.stands.rows.spelled p (omega arith)));
+              (spelled_more (rows_in l.account.rows p) row (page.number == p) (λ e. few_at old rules l page.number row p s.amid near (eqb-true page.number p e)) near.kind near.plain (s.amid.rows.spelled p (omega arith)));
         };
-        expired = subst (λ (c : Catalogued). AreExpired rules l.closings_then l.clock_then c.gone) (sym catalogue) s.stands.expired;
-        clock = subst (λ (c : Catalogued). IsClock l c.clock) (sym catalogue) s.stands.clock;
+        expired = subst (λ (c : Catalogued). AreExpired rules l.closings_then l.clock_then c.gone) (sym catalogue) s.amid.expired;
+        clock = subst (λ (c : Catalogued). IsClock l c.clock) (sym catalogue) s.amid.clock;
       };
       noted = subst (HasNotes rules (changed_in l page.number row) u l.closed_at_archive) (sym noted) (notes_kept rules l (with_row l.account page.number row) u l.closed_at_archive old.noted keeps s.noted);
     }
 
 -- in the form in which a call's clause has it
 pub changed_where : {E : Type 0} (result : Result (Unit {0}) E) (old new : Agent) (page : PageNo) (row : Row) → Takes old page.number row
-    → new.rules ≡ old.rules → new.router ≡ old.router → new.page ≡ old.page → new.opened ≡ old.opened → new.marked ≡ old.marked → new.closed ≡ old.closed → new.catalogue ≡ old.catalogue → new.noted ≡ old.noted
+    → new.rules ≡ old.rules → new.router ≡ old.router → new.page ≡ old.page → new.earliest ≡ old.earliest → new.keeper ≡ old.keeper → new.marked ≡ old.marked → new.closed ≡ old.closed → new.catalogue ≡ old.catalogue → new.noted ≡ old.noted
     → OnOk result (new.table ≡ old.table ++ (page, row) ∷ [])
     → OnOk result ((rules : Rules) (l : Ledger) (u : Unfinished) → StandsFor old rules l u → StandsFor new rules (changed_in l page.number row) u)
-changed_where (Ok done) old new page row near same_rules same_router same_page opened marked closed catalogue noted added = λ rules l u s. changed old new rules l u page row s near same_rules same_router same_page opened marked closed catalogue noted added
-changed_where (Err e) old new page row near same_rules same_router same_page opened marked closed catalogue noted added = tt
+changed_where (Ok done) old new page row near same_rules same_router same_page first keeper marked closed catalogue noted added = λ rules l u s. changed old new rules l u page row s near same_rules same_router same_page first keeper marked closed catalogue noted added
+changed_where (Err e) old new page row near same_rules same_router same_page first keeper marked closed catalogue noted added = tt

@@ -87,7 +87,7 @@ shelved_is agent rules l time first last from x looks look s has h =
 got_where : (agent : Agent) (rules : Rules) (l : Ledger) (time first last from : ℕ) (x : ShelfView) (looks : List Look) (look : Look) (w : Looked) → Saw agent rules l time first last from x looks → Contains looks look → look.looked ≡ w → IsKnown rules l look.page.number x w
     → is_in l.put_before look.page.number ≡ true → looked_unread w ≡ false → (y : GotPage) × Contains (reading_of looks).got y × (y.page ≡ look.page.number)
 got_where agent rules l time first last from x looks look (Borrowed r) s has e known put read = absurd (false≢true (sym known.0 ∙ put))
-got_where agent rules l time first last from x looks look (ReadBack p) s has e known put read = (record { page = look.page.number; held = record { bits = p.resident.value.page.members; rows = p.rows } }, into_got looks look p has e, refl)
+got_where agent rules l time first last from x looks look (ReadBack p) s has e known put read = (record { page = look.page.number; held = record { bits = p.resident.page.members; rows = p.rows } }, into_got looks look p has e, refl)
 got_where agent rules l time first last from x looks look (Unread c) s has e known put read = absurd (false≢true (sym read))
 
 read_is : (agent : Agent) (rules : Rules) (l : Ledger) (time first last from : ℕ) (x : ShelfView) (looks : List Look) → Saw agent rules l time first last from x looks → IsRead rules l (window rules l.account time) (reading_of looks)
@@ -121,10 +121,10 @@ read_is agent rules l time first last from x looks s = record {
 }
 
 fetched_digests : (rules : Rules) (l : Ledger) (x : ShelfView) (look : Look) (p : ReadPage) (y : GotPage) → IsKnown rules l look.page.number x look.looked → look.looked ≡ ReadBack p → look.page.number ≡ y.page
-    → (let h : Held = record { bits = p.resident.value.page.members; rows = p.rows } in h) ≡ y.held → HasDigests rules l.account y × (AreTold rules l.account y.page x → y.held ≡ held rules l.account y.page)
+    → (let h : Held = record { bits = p.resident.page.members; rows = p.rows } in h) ≡ y.held → HasDigests rules l.account y × (AreTold rules l.account y.page x → y.held ≡ held rules l.account y.page)
 fetched_digests rules l x look p y known is at same =
     let k : IsKnown rules l look.page.number x (ReadBack p) = subst (IsKnown rules l look.page.number x) is known in
-    let h : Held = record { bits = p.resident.value.page.members; rows = p.rows } in
+    let h : Held = record { bits = p.resident.page.members; rows = p.rows } in
     let whole : (let q : GotPage = record { page = look.page.number; held = h } in q) ≡ y = ap (λ n. let q : GotPage = record { page = n; held = h } in q) at ∙ ap (λ g. let q : GotPage = record { page = y.page; held = g } in q) same in
     (subst (HasDigests rules l.account) whole k.1.digests, λ told. sym same ∙ k.2 (subst (λ n. AreTold rules l.account n x) (sym at) told) ∙ ap (held rules l.account) at)
 

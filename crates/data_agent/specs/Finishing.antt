@@ -19,7 +19,7 @@ use Rattle.data_agent.specs.declared.archival.Note.{Note}
 use Rattle.data_agent.specs.declared.finishing.Settled.{Settled}
 use Rattle.data_agent.specs.declared.outcome.Archived.{Archived}
 use Rattle.data_agent.specs.Calls.{split_by}
-use Rattle.data_agent.specs.Standing.{AreDigests, StandsFor, noted_page, is_refused}
+use Rattle.data_agent.specs.Standing.{AreDigests, StandsWhole, noted_page, is_refused}
 
 abbrev pub was_put : Settled → Bool
 was_put one = is_some one.digests
@@ -125,7 +125,7 @@ finished_at l split = record l {
 pub record IsFinished (rules : Rules) (l : Ledger) (u : Unfinished) (archived : Option Archived) (agent : Agent) (before after : ShelfView) : Type 0 where
   pub told : is_some archived ≡ is_some l.closed_at_archive
   pub split : IsSplitOf rules l (split_by archived)
-  pub stands : StandsFor agent rules (finished_at l (split_by archived)) nothing_unfinished
+  pub stands : StandsWhole agent rules (finished_at l (split_by archived)) nothing_unfinished
   pub rose : RoseBy (length (split_by archived).kept - u.refused) before.faults after.faults
   pub holds : before.tells ≡ true → Holds rules before.contents l → HoldsBits rules before.contents l.account u → ArePageBits rules l.account u
       → Holds rules after.contents (finished_at l (split_by archived))

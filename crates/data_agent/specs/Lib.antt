@@ -2,8 +2,10 @@ pub mod Archiving
 pub mod Calls
 pub mod Expiring
 pub mod Finishing
+pub mod Laws
 pub mod Looking
 pub mod Passing
+pub mod Planes
 pub mod Residents
 pub mod Seeing
 pub mod Standing

@@ -34,7 +34,7 @@ is_unread look = looked_unread look.looked
 
 abbrev pub looked_shows : Looked → Sig → Bool
 looked_shows (Borrowed r) sig = shows r.now sig
-looked_shows (ReadBack p) sig = shows p.resident.value sig
+looked_shows (ReadBack p) sig = shows p.resident sig
 looked_shows (Unread cause) sig = false
 
 abbrev pub look_shows : Look → Sig → Bool
@@ -76,7 +76,7 @@ unread_in page (Unread cause) = Some (record { page = page; cause = cause })
 
 abbrev pub got_in : (page : ℕ) → Looked → Option GotPage
 got_in page (Borrowed r) = None
-got_in page (ReadBack p) = Some (record { page = page; held = record { bits = p.resident.value.page.members; rows = p.rows } })
+got_in page (ReadBack p) = Some (record { page = page; held = record { bits = p.resident.page.members; rows = p.rows } })
 got_in page (Unread cause) = None
 
 abbrev pub reading_of : List Look → Reading
@@ -89,12 +89,12 @@ reading_of looks = record {
 
 -- a page was read back with the digests that were kept
 pub record IsReadPage (rules : Rules) (a : Account) (page : ℕ) (p : ReadPage) : Type 0 where
-  pub family : p.resident.value.family ≡ family_of (shape_of rules a.router) page
-  pub digests : HasDigests rules a (record { page = page; held = record { bits = p.resident.value.page.members; rows = p.rows } })
+  pub family : p.resident.family.value ≡ family_of (shape_of rules a.router) page
+  pub digests : HasDigests rules a (record { page = page; held = record { bits = p.resident.page.members; rows = p.rows } })
 
 -- and is what was recorded
 abbrev pub IsTruePage : Rules → Account → (page : ℕ) → ReadPage → Type 0
-IsTruePage rules a page p = (let h : Held = record { bits = p.resident.value.page.members; rows = p.rows } in h) ≡ held rules a page
+IsTruePage rules a page p = (let h : Held = record { bits = p.resident.page.members; rows = p.rows } in h) ≡ held rules a page
 
 -- a page was read from the shelf, or could not be
 abbrev pub IsReadBack : Rules → Account → (page : ℕ) → (before after : ShelfView) → Looked → Type 0

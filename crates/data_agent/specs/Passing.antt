@@ -8,7 +8,7 @@ use Rattle.router_account.specs.Ledger.{Ledger, Unfinished}
 use Rattle.data_agent.specs.declared.agent.Agent.{Agent}
 use Rattle.data_agent.specs.declared.outcome.Closed.{Closed}
 use Rattle.data_agent.specs.Calls.{closing_of}
-use Rattle.data_agent.specs.Standing.{StandsFor}
+use Rattle.data_agent.specs.Standing.{StandsFor, StandsWhole}
 
 -- the agent stands for a ledger with the same entries and rows
 abbrev pub StandsForSame : Agent → Rules → Ledger → Type 0
@@ -28,4 +28,4 @@ ticked_at rules l clock tick = record l { account = if tick then after_tick rule
 -- and the agent stands for that, and tells which page was closed
 pub record IsTicked (rules : Rules) (l : Ledger) (u : Unfinished) (clock : ℕ) (tick : Bool) (closed : Option Closed) (after : Agent) : Type 0 where
   pub told : option_map closing_of closed ≡ closing_at rules l clock tick
-  pub stands : StandsFor after rules (ticked_at rules l clock tick) u
+  pub stands : StandsWhole after rules (ticked_at rules l clock tick) u

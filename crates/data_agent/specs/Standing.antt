@@ -3,16 +3,23 @@ use Rattle.std.specs.Prelude.{ℕ, ◌≡◌, ◌≤◌, ◌<◌, ◌+◌, ◌-�
 use Rattle.std.specs.List.{Contains}
 use Rattle.std.specs.declared.alloc.Global.{Global}
 use Rattle.sha2.specs.Sha256.{sha256}
-use Rattle.spie_base.specs.Shapes.{AreInRange}
+use Rattle.spie_base.specs.Shapes.{AreInRange, shape_of}
+use Rattle.spie_base.specs.declared.Entry.{Entry}
+use Rattle.spie_base.specs.declared.PageShape.{PageShape}
 use Rattle.spie_base.specs.declared.Rules.{Rules}
 use Rattle.bloom_page.specs.Sets.{is_in}
 use Rattle.packet_signature.specs.declared.Row.{Row}
 use Rattle.archive_record.specs.Spelling.{IsRow, IsPlainRow}
+use Rattle.gate_core.specs.declared.view.Role.TheVariants.{Keeper}
+use Rattle.gate_core.specs.Invariant.{SlotsFit}
+use Rattle.page_gate.specs.Held.{Held}
+use Rattle.page_gate.specs.Slots.{HasOpen, IsWaiting}
+use Rattle.page_gate.specs.Slots.{open_page as page_open}
 use Rattle.page_catalogue.specs.Catalogues.{AreExpired}
 use Rattle.page_catalogue.specs.Pages.{AreAscending}
 use Rattle.page_shelf.specs.declared.ShelfPart.TheVariants.{Bits, Rows}
 use Rattle.shelved_page.specs.declared.shelving.Digests.{Digests}
-use Rattle.router_account.specs.Account.{Account, rows_in}
+use Rattle.router_account.specs.Account.{Account, fill, rows_in}
 use Rattle.router_account.specs.Barriers.{AreRising, IsCovered, archive_view}
 use Rattle.router_account.specs.Records.{true_text}
 use Rattle.transform_table.specs.Tables.{rows_of_page}
@@ -33,7 +40,24 @@ pub record AreTimes (closings : List ℕ) : Type 0 where
   pub ascend : AreAscending closings
   pub fit : (time : ℕ) → Contains closings time → time < 2 ^ 48
 
--- the agent's pages are those of an account: the open one, and behind the expired ones all closed ones
+-- the keeper of an agent, on a plane of this shape: it has these entries, page `last` is open, and the pages from `first` on and before
+-- that one are closed and stand in slots, and no others do
+pub record IsKeeping (shape : PageShape) (keeper : Held) (entries : List Entry) (first last : ℕ) : Type 0 where
+  pub role : keeper.view.role ≡ Keeper
+  pub alone : keeper.view.duties.out ≡ 0
+  pub has : keeper.view.entries ≡ entries
+  pub fits : SlotsFit shape keeper.view.duties
+  pub has_open : HasOpen keeper.view.duties
+  pub open_is : page_open keeper.view.duties ≡ last
+  pub order : first ≤ last
+  pub stand : (page : ℕ) → first ≤ page → page < last → IsWaiting keeper.view.duties page
+  pub only : (page : ℕ) → IsWaiting keeper.view.duties page → (first ≤ page) × (page < last)
+
+-- the first page that stands in a slot: those before it have expired or were collected
+abbrev pub standing : Agent → ℕ
+standing agent = agent.catalogue.gone + length agent.closed.items
+
+-- the agent's pages are those of an account: the open one, and behind the expired ones the closed ones
 pub record HasPages (agent : Agent) (rules : Rules) (a : Account) : Type 0 where
   pub ranges : AreInRange rules.k rules.n
   pub router_fits : a.router < 64
@@ -45,9 +69,9 @@ pub record HasPages (agent : Agent) (rules : Rules) (a : Account) : Type 0 where
   pub few : length a.closings < 2 ^ 32 - 1
   pub page : agent.page.number ≡ length a.closings
   pub entered : All (λ entry. entry.page.number ≤ length a.closings) a.entries
-  pub opened : IsResident rules a (length a.closings) agent.opened.value
-  pub marked : length agent.opened.value.page.members ≤ agent.marked
-  pub count : agent.catalogue.gone + length agent.closed.items ≡ length a.closings
+  pub first : agent.earliest ≡ agent.catalogue.gone
+  pub marked : fill rules a (length a.closings) ≤ agent.marked
+  pub keeping : IsKeeping (shape_of rules a.router) agent.keeper a.entries (standing agent) (length a.closings)
 
 -- ---- closed pages
 
@@ -58,7 +82,7 @@ pub record AreDigests (rules : Rules) (a : Account) (page : ℕ) (d : Digests) :
 
 -- a page that was put is on the shelf, and each other one in memory
 abbrev pub IsPlaced : Rules → Account → (page : ℕ) → (put : Bool) → Whereabouts → Type 0
-IsPlaced rules a page put (InMemory r) = (put ≡ false) × IsResident rules a page r.value
+IsPlaced rules a page put (InMemory r) = (put ≡ false) × IsResident rules a page r
 IsPlaced rules a page put (OnShelf d) = (put ≡ true) × AreDigests rules a page d
 
 pub record IsClosed (rules : Rules) (l : Ledger) (page : ℕ) (c : ClosedPage) : Type 0 where
@@ -69,7 +93,7 @@ pub record IsClosed (rules : Rules) (l : Ledger) (page : ℕ) (c : ClosedPage) :
 abbrev pub AreClosed : Rules → Ledger → (first : ℕ) → List ClosedPage → Type 0
 AreClosed rules l first pages = (i : ℕ) (d : ClosedPage) → i < length pages → IsClosed rules l (first + i) (slice_index_or pages i d)
 
--- no archival covered the open page or one to come
+-- no archival covered a page that stands in a slot, or one to come
 pub record IsToCome (l : Ledger) (page : ℕ) : Type 0 where
   pub unput : is_in l.put_before page ≡ false
   pub uncovered : is_in l.covered_before page ≡ false
@@ -128,19 +152,36 @@ HasNotes rules l u (Some closings) (Some notes) = AreNotes rules l u closings no
 
 -- ---- the whole
 
--- all but the segment's archival
+-- all but the segment's archival, amid a segment: closed pages may stand in slots
+pub record StandsAmid (agent : Agent) (rules : Rules) (l : Ledger) : Type 0 where
+  pub pages : HasPages agent rules l.account
+  pub closed : AreClosed rules l agent.catalogue.gone agent.closed.items
+  pub to_come : (page : ℕ) → standing agent ≤ page → IsToCome l page
+  pub rows : HasRows agent l
+  pub expired : AreExpired rules l.closings_then l.clock_then agent.catalogue.gone
+  pub clock : IsClock l agent.catalogue.clock
+
+pub record StandsFor (agent : Agent) (rules : Rules) (l : Ledger) (u : Unfinished) : Type 0 where
+  pub amid : StandsAmid agent rules l
+  pub noted : HasNotes rules l u l.closed_at_archive agent.noted
+
+-- the same where every closed page has left its slot
 pub record Stands (agent : Agent) (rules : Rules) (l : Ledger) : Type 0 where
   pub pages : HasPages agent rules l.account
+  pub count : standing agent ≡ length l.account.closings
   pub closed : AreClosed rules l agent.catalogue.gone agent.closed.items
   pub to_come : (page : ℕ) → length l.account.closings ≤ page → IsToCome l page
   pub rows : HasRows agent l
   pub expired : AreExpired rules l.closings_then l.clock_then agent.catalogue.gone
   pub clock : IsClock l agent.catalogue.clock
 
-pub record StandsFor (agent : Agent) (rules : Rules) (l : Ledger) (u : Unfinished) : Type 0 where
+pub record StandsWhole (agent : Agent) (rules : Rules) (l : Ledger) (u : Unfinished) : Type 0 where
   pub stands : Stands agent rules l
   pub noted : HasNotes rules l u l.closed_at_archive agent.noted
 
 -- whatever ledger one agent stands for, another does
 abbrev pub StillStands : (old new : Agent) → Type 0
 StillStands old new = (rules : Rules) (l : Ledger) (u : Unfinished) → StandsFor old rules l u → StandsFor new rules l u
+
+abbrev pub StillWhole : (old new : Agent) → Type 0
+StillWhole old new = (rules : Rules) (l : Ledger) (u : Unfinished) → StandsWhole old rules l u → StandsWhole new rules l u

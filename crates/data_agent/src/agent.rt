@@ -1,42 +1,51 @@
-// The agent of one router: recording, and opening the next page.
+// The agent of one router, and recording.
 //
-// A page in memory is one value with its hash functions. The agent has a place for each closed page that has not
-// expired, in order, so a page's number is its place behind the expired ones.
+// The open page and the closed ones that were not collected yet stand in slots of the plane. The agent has a place for each closed page
+// that was collected and has not expired, in order, so a page's number is its place behind the expired ones; the numbers
+// behind the last place are those of pages that stand in slots.
 ghost use Rattle.std.specs.Prelude.{◌≡◌, ◌<◌, ◌≤◌, ◌+◌, ◌-◌, ◌^◌, ℕ, IfOk, OnOk, OnErr, length};
-ghost use Rattle.spie_base.specs.Shapes.{AreInRange};
+ghost use Rattle.spie_base.specs.Shapes.{AreInRange, shape_of};
 ghost use Rattle.archive_record.specs.Spelling.{IsPlainRow};
 ghost use Rattle.spie_base.specs.declared.Rules.{Rules as TheRules};
 ghost use Rattle.page_catalogue.specs.Pages.{open_page};
-ghost use Rattle.router_account.specs.Ledger.{Ledger, Unfinished, first_ledger, nothing_unfinished, recorded_in, changed_in, turned_at};
-ghost use Rattle.data_agent.specs.Calls.{IsNear, MayTurn};
+ghost use Rattle.page_gate.specs.Held.{PlaneId};
+ghost use Rattle.router_account.specs.Ledger.{Ledger, Unfinished, first_ledger, nothing_unfinished, recorded_in, changed_in};
+ghost use Rattle.data_agent.specs.Calls.{IsNear};
+ghost use Rattle.data_agent.specs.Planes.{IsOwnPlane};
 ghost use Rattle.data_agent.specs.Standing.{StandsFor};
 
 use crate::Resident;
 use crate::archival::Note;
-use crate::closed_page::{ClosedPage, Whereabouts};
+use crate::closed_page::ClosedPage;
 use packet_signature::{Row, RowData};
 use page_catalogue::Catalogue;
-use spie_base::{NoMemory, PageNo, RouterId, Rules, Sig};
+use page_gate::{Keeper, Plane};
+use spie_base::{NoMemory, PageNo, PageShape, RouterId, Rules, Sig};
 use std::alloc::Global;
 use std::collections::VecDeque;
-use std::mem;
 use transform_table::Table;
 
-/// One router's pages and transforms.
+/// One router's pages and transforms, beside the plane on which it works.
 #[derive(Drop)]
 pub struct Agent {
     pub(crate) rules: Rules,
     pub(crate) router: RouterId,
     pub(crate) catalogue: Catalogue,
+    // The open page.
     pub(crate) page: PageNo,
-    pub(crate) opened: Box<Resident>,
+    // The first page that has not expired.
+    pub(crate) earliest: u32,
+    pub(crate) keeper: Keeper,
     // At least as many bits as are set in the open page.
     pub(crate) marked: u32,
+    // Of the pages from the first one on those that were collected.
     pub(crate) closed: VecDeque<ClosedPage>,
-    // The rows of the pages in memory.
+    // The rows of the pages in the plane and in memory.
     pub(crate) table: Table,
     // What the segment's archival covers, where one came.
     pub(crate) noted: Option<Vec<Note>>,
+    // A copy of the open page, which sights borrow.
+    pub(crate) copied: Option<Resident>,
 }
 
 // Bytes have their length by their type.
@@ -63,69 +72,67 @@ fn is_plain(row: &Row)
     }
 }
 
+// The shape of a router's pages.
+fn shape_of(rules: &Rules, router: RouterId) -> PageShape
+    ensures { result ≡ shape_of rules.now router.number }
+{
+    PageShape {
+        k: rules.k,
+        n: rules.n,
+        base: rules.base,
+        router,
+    }
+}
+
 impl Agent {
-    /// An agent that has recorded nothing. Its page 0 is open, since 0.
-    pub fn open(alloc: Global, router: RouterId, rules: &Rules) -> Result<Agent, NoMemory>
+    /// A plane, and the agent that works on it, which has recorded nothing. Its page 0 is open, since 0. Takes the memory for four
+    /// slots of 2^(n-6) words, once.
+    pub fn open(alloc: Global, router: RouterId, rules: &Rules) -> Result<(Plane, Agent), NoMemory>
         requires router { router.number < 64 }
         requires rules { AreInRange rules.now.k rules.now.n }
-        ensures { IfOk result (λ agent. StandsFor agent rules.now (first_ledger router.number) nothing_unfinished) }
+        ensures first { IfOk result (λ r. StandsFor r.1 rules.now (first_ledger router.number) nothing_unfinished) }
+        ensures own { IfOk result (λ r. IsOwnPlane r.0 r.1) }
+        ensures shape { IfOk result (λ r. r.0.shape ≡ shape_of rules.now router.number) }
     {
-        let page = PageNo { number: 0 };
-        Ok(Agent {
+        let (plane, keeper) = Plane::open(alloc, shape_of(rules, router))?;
+        let agent = Agent {
             rules: *rules,
             router,
             catalogue: Catalogue::start(alloc, rules)?,
-            page,
-            opened: Resident::open(alloc, rules, router, page)?,
+            page: PageNo { number: 0 },
+            earliest: 0,
+            keeper,
             marked: 0,
             closed: VecDeque::new(alloc),
             table: Table::new(alloc)?,
             noted: None,
-        })
+            copied: None,
+        };
+        Ok((plane, agent))
     }
 
-    /// Records a signature in the open page, and answers its number. Costs 7·k multiplications and k bits, and takes no
+    /// Records a signature in the open page, and answers its number. Costs what `Plane::record_alone` does, and takes no
     /// memory.
-    pub fn forward(&mut self, sig: &Sig) -> PageNo
-        requires { (rules : TheRules) × (l : Ledger) × (u : Unfinished) × StandsFor self.old rules l u }
+    pub fn forward(&mut self, plane: &Plane, sig: &Sig) -> PageNo
+        requires own { IsOwnPlane plane.now self.old }
+        requires stands { (rules : TheRules) × (l : Ledger) × (u : Unfinished) × StandsFor self.old rules l u }
+        ensures own { IsOwnPlane plane.now self.new }
         ensures page { (rules : TheRules) (l : Ledger) (u : Unfinished) → StandsFor self.old rules l u → result.number ≡ open_page l.account.closings }
         ensures recorded { (rules : TheRules) (l : Ledger) (u : Unfinished) → StandsFor self.old rules l u → StandsFor self.new rules (recorded_in l (open_page l.account.closings) sig.now) u }
     {
-        self.opened.record(sig);
+        let page = plane.record_alone(&mut self.keeper, sig);
         self.marked = self.marked.saturating_add(u32::from(self.rules.k));
-        self.page
+        page
     }
 
     /// Adds the row of a transform whose packet was recorded in a page. Costs what the table of rows says of `add`.
     pub fn transform(&mut self, alloc: Global, page: PageNo, row: &Row) -> Result<(), NoMemory>
         requires near { (rules : TheRules) × (l : Ledger) × (u : Unfinished) × StandsFor self.old rules l u × IsNear rules l page.number row.now }
+        ensures own { (plane : PlaneId) → IsOwnPlane plane self.old → IsOwnPlane plane self.new }
         ensures changed { OnOk result ((rules : TheRules) (l : Ledger) (u : Unfinished) → StandsFor self.old rules l u → StandsFor self.new rules (changed_in l page.number row.now) u) }
         ensures same { OnErr result ((rules : TheRules) (l : Ledger) (u : Unfinished) → StandsFor self.old rules l u → StandsFor self.new rules l u) }
     {
         is_plain(row);
         self.table.add(alloc, page, row)
-    }
-
-    /// Closes the open page at this clock, and opens the next, whose number is the answer.
-    pub fn rotate_alone(&mut self, alloc: Global, clock: u64) -> Result<PageNo, NoMemory>
-        requires ready { MayTurn (StandsFor self.old) clock }
-        ensures page { IfOk result (λ page. (rules : TheRules) (l : Ledger) (u : Unfinished) → StandsFor self.old rules l u → page.number ≡ open_page l.account.closings + 1) }
-        ensures turned { OnOk result ((rules : TheRules) (l : Ledger) (u : Unfinished) → StandsFor self.old rules l u → StandsFor self.new rules (turned_at l clock) u) }
-        ensures same { OnErr result ((rules : TheRules) (l : Ledger) (u : Unfinished) → StandsFor self.old rules l u → StandsFor self.new rules l u) }
-    {
-        let next = PageNo {
-            number: self.page.number + 1,
-        };
-        let fresh = Resident::open(alloc, &self.rules, self.router, next)?;
-        self.closed.reserve(1)?;
-        self.catalogue.reserve(alloc, 1)?;
-        let filled = mem::replace(&mut self.opened, fresh);
-        self.closed.push_back_reserved(ClosedPage {
-            place: Whereabouts::InMemory(filled),
-            covered: false,
-        });
-        self.marked = 0;
-        self.page = self.catalogue.turn(clock);
-        Ok(self.page)
     }
 }

@@ -9,11 +9,13 @@ ghost use Rattle.shelved_page.specs.Shelving.{view_of};
 ghost use Rattle.data_agent.specs.Archiving.{HasClosed, NotesOne, NotesTo};
 ghost use Rattle.data_agent.specs.Calls.{MayNote, IsNoted};
 ghost use Rattle.data_agent.specs.Passing.{StandsForSame};
-ghost use Rattle.data_agent.specs.Standing.{HasPages, Stands, StandsFor};
+ghost use Rattle.data_agent.specs.Planes.{IsOwnPlane, IsPlaneSame};
+ghost use Rattle.data_agent.specs.Standing.{HasPages, Stands, StandsFor, StandsWhole};
 
 use crate::Agent;
 use archive_record::BitsHead;
 use hash_family::page_seed;
+use page_gate::Plane;
 use page_shelf::Shelf;
 use shelved_page::put_bits;
 use spie_base::{NoMemory, PageNo};
@@ -85,18 +87,39 @@ impl Agent {
         Ok(notes)
     }
 
-    /// Notes which pages an archival covers: those that are closed, have not expired and are not on the shelf. Puts
-    /// their bits records, in order. A segment has one archival. Copies no page beside the bytes of one record.
-    pub fn archive<H: Shelf>(&mut self, alloc: Global, shelf: &mut H) -> Result<(), NoMemory>
+    // Notes the closed pages where all have left their slots.
+    fn note_closed<H: Shelf>(&mut self, alloc: Global, shelf: &mut H) -> Result<(), NoMemory>
+        requires noted { MayNote (StandsWhole self.old) }
+        ensures later { H.faults shelf.old ≤ H.faults shelf.new }
+        ensures still { H.tells shelf.new ≡ H.tells shelf.old }
+        ensures noted { OnOk result ((more : Unfinished) × IsNoted (StandsWhole self.old) (StandsWhole self.new) more (H.tells shelf.old) (H.contents shelf.old) (H.contents shelf.new)
+            × RoseBy more.refused (H.faults shelf.old) (H.faults shelf.new)) }
+        ensures plane { IsPlaneSame self.old self.new }
+        ensures same { OnErr result (self.new ≡ self.old) }
+    {
+        let notes = self.notes(alloc, shelf)?;
+        self.noted = Some(notes);
+        Ok(())
+    }
+
+    /// Notes which pages an archival covers: those that are closed, have not expired and are not on the shelf. Collects those
+    /// that stand in slots, and puts the bits records of all, in order. A segment has one archival. Copies no page beside the bytes of one record.
+    pub fn archive<H: Shelf>(
+        &mut self,
+        alloc: Global,
+        plane: &Plane,
+        shelf: &mut H,
+    ) -> Result<(), NoMemory>
+        requires own { IsOwnPlane plane.now self.old }
         requires noted { MayNote (StandsFor self.old) }
+        ensures own { IsOwnPlane plane.now self.new }
         ensures later { H.faults shelf.old ≤ H.faults shelf.new }
         ensures still { H.tells shelf.new ≡ H.tells shelf.old }
         ensures noted { OnOk result ((more : Unfinished) × IsNoted (StandsFor self.old) (StandsFor self.new) more (H.tells shelf.old) (H.contents shelf.old) (H.contents shelf.new)
             × RoseBy more.refused (H.faults shelf.old) (H.faults shelf.new)) }
         ensures recorded { OnErr result ((rules : TheRules) (l : Ledger) (u : Unfinished) → StandsFor self.old rules l u → StandsForSame self.new rules l) }
     {
-        let notes = self.notes(alloc, shelf)?;
-        self.noted = Some(notes);
-        Ok(())
+        self.take_all(alloc, plane)?;
+        self.note_closed(alloc, shelf)
     }
 }

@@ -1,16 +1,16 @@
-// A closed page that has not expired: in memory, or on the shelf.
+// A closed page that has not expired and has left its slot: in memory, or on the shelf.
 use crate::Resident;
 use shelved_page::Digests;
 
-/// Where a closed page is.
+/// Where a closed page is that was collected.
 #[derive(Drop)]
 pub enum Whereabouts {
-    InMemory(Box<Resident>),
+    InMemory(Resident),
     /// The SHA-256 of its two records are all that stays of it in memory.
     OnShelf(Digests),
 }
 
-/// A closed page that has not expired.
+/// A closed page that was collected and has not expired.
 #[derive(Drop)]
 pub struct ClosedPage {
     pub(crate) place: Whereabouts,

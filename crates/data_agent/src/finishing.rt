@@ -12,7 +12,8 @@ ghost use Rattle.data_agent.specs.declared.archival.Note.{Note as TheNote};
 ghost use Rattle.data_agent.specs.declared.finishing.Settled.{Settled as TheSettled};
 ghost use Rattle.data_agent.specs.Archiving.{HasClosed};
 ghost use Rattle.data_agent.specs.Finishing.{FinishesOne, FinishesTo, IsFinished, IsSettled, digests_with, settled_by, settled_all, shelved_in, covered_in, pages_put, pages_kept};
-ghost use Rattle.data_agent.specs.Standing.{AreDigests, Stands, StandsFor, IsBitsDigest};
+ghost use Rattle.data_agent.specs.Planes.{IsPlaneSame};
+ghost use Rattle.data_agent.specs.Standing.{AreDigests, Stands, StandsWhole, IsBitsDigest};
 
 use crate::archival::Note;
 use crate::closed_page::{ClosedPage, Whereabouts};
@@ -126,6 +127,7 @@ impl Agent {
         requires closed { HasClosed self.old page.number }
         ensures shelved { (rules : TheRules) (l : Ledger) → Stands self.old rules l → AreDigests rules l.account page.number digests → Stands self.new rules (shelved_in l page.number) }
         ensures rest { (self.new.catalogue ≡ self.old.catalogue) × (self.new.page ≡ self.old.page) × (self.new.noted ≡ self.old.noted) }
+        ensures plane { IsPlaneSame self.old self.new }
     {
         let at = (page.number - self.first()) as usize;
         self.closed[at] = ClosedPage {
@@ -140,6 +142,7 @@ impl Agent {
         requires closed { HasClosed self.old page.number }
         ensures covered { (rules : TheRules) (l : Ledger) → Stands self.old rules l → Stands self.new rules (covered_in l page.number) }
         ensures rest { (self.new.catalogue ≡ self.old.catalogue) × (self.new.page ≡ self.old.page) × (self.new.noted ≡ self.old.noted) }
+        ensures plane { IsPlaneSame self.old self.new }
     {
         let at = (page.number - self.first()) as usize;
         self.closed[at].covered = true;
@@ -150,6 +153,7 @@ impl Agent {
         requires closed { HasClosed self.old settled.now.page.number }
         ensures settled { (rules : TheRules) (l : Ledger) → Stands self.old rules l → IsSettled rules l.account settled.now → Stands self.new rules (settled_by l settled.now) }
         ensures rest { (self.new.catalogue ≡ self.old.catalogue) × (self.new.page ≡ self.old.page) × (self.new.noted ≡ self.old.noted) }
+        ensures plane { IsPlaneSame self.old self.new }
     {
         match settled.digests {
             Some(digests) => self.shelve(settled.page, digests),
@@ -164,6 +168,7 @@ impl Agent {
         ensures settled { (rules : TheRules) (l : Ledger) → Stands self.old rules l → ((one : TheSettled) → Contains settled.now one → IsSettled rules l.account one)
             → Stands self.new rules (settled_all l settled.now) }
         ensures rest { (self.new.catalogue ≡ self.old.catalogue) × (self.new.page ≡ self.old.page) × (self.new.noted ≡ self.old.noted) }
+        ensures plane { IsPlaneSame self.old self.new }
     {
         for one in settled {
             self.settle_one(one);
@@ -176,14 +181,15 @@ impl Agent {
         alloc: Global,
         shelf: &mut H,
     ) -> Result<Option<Archived>, NoMemory>
-        requires { (rules : TheRules) × (l : Ledger) × (u : Unfinished) × StandsFor self.old rules l u }
+        requires { (rules : TheRules) × (l : Ledger) × (u : Unfinished) × StandsWhole self.old rules l u }
         ensures later { H.faults shelf.old ≤ H.faults shelf.new }
         ensures still { H.tells shelf.new ≡ H.tells shelf.old }
         ensures finished { let before = view_of H.tells H.contents H.faults shelf.old in
             let after = view_of H.tells H.contents H.faults shelf.new in
-            IfOk result (λ archived. (rules : TheRules) (l : Ledger) (u : Unfinished) → StandsFor self.old rules l u → IsFinished rules l u archived self.new before after) }
+            IfOk result (λ archived. (rules : TheRules) (l : Ledger) (u : Unfinished) → StandsWhole self.old rules l u → IsFinished rules l u archived self.new before after) }
         ensures rest { self.new.catalogue ≡ self.old.catalogue }
-        ensures same { OnErr result ((rules : TheRules) (l : Ledger) (u : Unfinished) → StandsFor self.old rules l u → StandsFor self.new rules l u) }
+        ensures plane { IsPlaneSame self.old self.new }
+        ensures same { OnErr result ((rules : TheRules) (l : Ledger) (u : Unfinished) → StandsWhole self.old rules l u → StandsWhole self.new rules l u) }
     {
         let Some(notes) = &self.noted else {
             return Ok(None);

@@ -7,20 +7,35 @@
 //! event, and its answer is an equation over it. `StandsFor` says what standing for a ledger is, and no public clause looks
 //! into it.
 //!
+//! # The plane
+//!
+//! An agent works on a plane of its own (`page_gate`), which it does not hold: threads may share planes while agents change.
+//! `Agent::open` gives both, and each call that reads or writes bits takes the plane and requires that it is the agent's own. The
+//! agent holds the plane's keeper, and the keeper's entries are those of the ledger.
+//!
 //! # The life of a page
 //!
-//! A page is open, then closed and in memory. An archival notes the closed pages that no earlier one put, and puts their
-//! bits on the shelf. At the barrier behind it their rows follow. A page of which both were put leaves memory, and two
-//! digests stay in its place; another one is kept, for the next archival. When a page expires, its rows, its place and
-//! its records go. Of an expired page nothing stays but that it was there.
+//! A page is open in a slot of the plane, then closed and still in its slot. It is collected at the next archival or barrier, or
+//! when `rotate_alone` needs its slot, the oldest first: then it is a value in memory, with its hash functions. An archival
+//! notes the closed pages that no earlier one put, and puts their bits on the shelf. At the barrier behind it their rows
+//! follow. A page of which both were put leaves memory, and two digests stay in its place; another one is kept, for the next
+//! archival. When a page expires, its rows, its place and its records go. Of an expired page nothing stays but that it was there.
 //!
 //! # What a query sees
 //!
-//! A `Sight` borrows the pages of the window that are in memory, and reads the others back. A page that can't be read back is
-//! named with its cause, and is missing, as an expired one is: so its router never says no.
+//! A sight borrows from the agent, and reading the plane takes its keeper. So `prepare` comes first: it collects the closed pages
+//! and copies the open one, at the cost of a load for each of its 2^(n-6) words. A `Sight` borrows this copy and the pages of
+//! the window that are in memory, copies none of them, and reads the others back from the shelf. A page that can't be read
+//! back is named with its cause, and is missing, as an expired one is: so its router never says no.
 //!
-//! Read `specs/Calls.antt`, `specs/Standing.antt`, `agent`, `watch`, `archival`, `finishing`, `barrier`, `looking` and then
-//! `sight`.
+//! # What is in memory
+//!
+//! For each router a plane, which is 5 + 4·2^(n-6) words, 32 KiB at n 16; the keeper with the hash functions of one page, about 700
+//! bytes; for each page that was collected, has not expired and is not on the shelf 2^(n-6) words and 560 bytes of hash
+//! functions; as much for the copy, from a `prepare` to the next barrier; for each page on the shelf 64 bytes; and the rows.
+//!
+//! Read `specs/Calls.antt`, `specs/Planes.antt`, `specs/Standing.antt`, `agent`, `rotating`, `slots`, `watch`, `archival`, `finishing`,
+//! `barrier`, `looking` and then `sight`.
 #![tactic(auto)]
 
 mod agent;
@@ -28,13 +43,17 @@ mod archival;
 mod barrier;
 mod closed_page;
 mod finishing;
+mod laws;
 mod looking;
 mod outcome;
 mod resident;
+mod rotating;
 mod sight;
+mod slots;
 mod watch;
 
 pub use agent::Agent;
+pub use laws::entries_are;
 pub use outcome::{Archived, Barrier, Closed};
 pub use resident::Resident;
 pub use sight::Sight;

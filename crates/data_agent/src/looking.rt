@@ -6,6 +6,8 @@ ghost use Rattle.shelved_page.specs.Reading.{Gets};
 ghost use Rattle.shelved_page.specs.Shelving.{view_of};
 ghost use Rattle.data_agent.specs.Archiving.{HasClosed};
 ghost use Rattle.data_agent.specs.Looking.{IsLooked, IsReadBack, LooksTo, is_unread, look_shows, undone_by, rows_undone, used_of, unread_of, unread_where};
+ghost use Rattle.data_agent.specs.Planes.{IsCopy, IsPrepared};
+ghost use Rattle.data_agent.specs.Residents.{IsResident};
 ghost use Rattle.data_agent.specs.Standing.{AreDigests, Stands};
 
 use crate::closed_page::Whereabouts;
@@ -20,7 +22,7 @@ use std::alloc::Global;
 /// A page that was read back from the shelf.
 #[derive(Drop)]
 pub struct ReadPage {
-    pub(crate) resident: Box<Resident>,
+    pub(crate) resident: Resident,
     pub(crate) rows: List<Row>,
 }
 
@@ -128,6 +130,19 @@ pub(crate) fn unread_pages(alloc: Global, looks: &[Look<'_>]) -> Result<List<Unr
 }
 
 impl Agent {
+    // The copy of the open page.
+    #[tactic(auto, using(crate::proofs::Planes::some_copy, crate::proofs::Planes::none_copy, crate::proofs::Planes::copy_of))]
+    fn copy(&self) -> &Resident
+        requires { IsPrepared self.now }
+        ensures copy { IsCopy self.now result.now }
+        ensures resident { (rules : TheRules) (l : Ledger) → Stands self.now rules l → IsResident rules l.account self.now.page.number result.now }
+    {
+        match &self.copied {
+            Some(resident) => resident,
+            None => unreachable!(),
+        }
+    }
+
     // Reads a page back from the shelf.
     fn read_page<H: Shelf>(
         &self,
@@ -165,6 +180,7 @@ impl Agent {
         shelf: &mut H,
         page: PageNo,
     ) -> Result<Looked<'_>, NoMemory>
+        requires prepared { IsPrepared self.now }
         requires near { (rules : TheRules) × (l : Ledger) × Stands self.now rules l × (self.now.catalogue.gone ≤ page.number) × (page.number ≤ self.now.page.number) }
         ensures gets { let before = view_of H.tells H.contents H.faults shelf.old in
             let after = view_of H.tells H.contents H.faults shelf.new in
@@ -174,7 +190,7 @@ impl Agent {
             IfOk result (λ looked. (rules : TheRules) (l : Ledger) → Stands self.now rules l → IsLooked rules l page.number before after looked) }
     {
         if page.number == self.page.number {
-            return Ok(Looked::Borrowed(&self.opened));
+            return Ok(Looked::Borrowed(self.copy()));
         }
         match &self.closed[(page.number - self.first()) as usize].place {
             Whereabouts::InMemory(resident) => Ok(Looked::Borrowed(resident)),
@@ -190,6 +206,7 @@ impl Agent {
         from: u32,
         last: u32,
     ) -> Result<Vec<Look<'_>>, NoMemory>
+        requires prepared { IsPrepared self.now }
         requires stands { (rules : TheRules) × (l : Ledger) × Stands self.now rules l }
         requires near { self.now.catalogue.gone ≤ from }
         requires exists { last ≤ self.now.page.number }

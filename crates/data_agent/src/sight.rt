@@ -12,6 +12,7 @@ ghost use Rattle.std.specs.List.{flat_map};
 ghost use Rattle.data_agent.specs.Calls.{MayAsk, IsSeen};
 ghost use Rattle.data_agent.specs.Looking.{undone_by};
 ghost use Rattle.data_agent.specs.Seeing.{undone_in, shown_by, told_by, expired_in};
+ghost use Rattle.data_agent.specs.Planes.{IsPrepared};
 ghost use Rattle.data_agent.specs.Standing.{StandsFor};
 
 use crate::Agent;
@@ -129,14 +130,16 @@ impl Agent {
         &self.table
     }
 
-    /// What a query for a time sees. The sight borrows the pages of the window that are in memory, and copies none. It
-    /// reads those on the shelf back, of each the bits first, and the rows only where the bits were got.
+    /// What a query for a time sees, behind `prepare`. The sight borrows the pages of the window that are in memory, and
+    /// copies none; of the open page it borrows the copy that `prepare` made. It reads those on the shelf back, of each the
+    /// bits first, and the rows only where the bits were got.
     pub fn sight<H: Shelf>(
         &self,
         alloc: Global,
         shelf: &mut H,
         time: u64,
     ) -> Result<Sight<'_>, NoMemory>
+        requires prepared { IsPrepared self.now }
         requires past { MayAsk (StandsFor self.now) time }
         ensures later { H.faults shelf.old ≤ H.faults shelf.new }
         ensures still { H.tells shelf.new ≡ H.tells shelf.old }

@@ -1,124 +1,35 @@
-use Rattle.std.proofs.Common.{◌-◌, sym, subst, map}
-use Rattle.spie_base.specs.Causes.{RoseBy}
-use Rattle.spie_base.specs.declared.Rules.{Rules}
-use Rattle.router_account.specs.Ledger.{Ledger, Unfinished, behind_barrier, nothing_unfinished}
-use Rattle.router_account.specs.Records.{Holds}
-use Rattle.router_account.specs.Shelves.{ShelfView}
-use Rattle.shelved_page.specs.Shelving.{view_of}
-use Rattle.data_agent.specs.Calls.{IsPassed, marks_of, number_of, split_by}
-use Rattle.data_agent.specs.Finishing.{finished_at}
-use Rattle.data_agent.specs.Passing.{StandsForSame, ticked_at}
-use Rattle.data_agent.specs.Standing.{StandsFor}
-use Rattle.data_agent.proofs.Barring.{Parts, holds, others, outcome_of, paid, passed, recorded_expired, recorded_finished, told}
-use Rattle.data_agent.proofs.Results.{on_err}
+use Rattle.data_agent.proofs.Kept.{for_of}
+use Rattle.data_agent.proofs.Passing.{recorded_same}
+use Rattle.data_agent.proofs.Planes.{own_same, still_then}
+use Rattle.data_agent.proofs.Results.{if_ok, on_err, on_err_from, on_ok}
 use Rattle.data_agent.proofs.agent.Agent.barrier.Goals as goal
 
-pub returns-in_err-closed-clause-recorded : goal.returns-in_err-closed-clause-recorded
-returns-in_err-closed-clause-recorded g c =
-    let recorded : (rules : Rules) (l : Ledger) (u : Unfinished) → StandsFor c.args.self.now rules l u → StandsForSame c.close.new.self rules l = λ rules l u s.
-    recorded_finished c.close.new.self rules l (split_by c.in_ok-archived.archived) (c.in_err-closed.ensures.same rules (finished_at l (split_by c.in_ok-archived.archived)) nothing_unfinished (c.in_ok-archived.ensures.finished rules l u s).stands) in
-    on_err _ recorded
+pub take_all-requires-clause-own : goal.take_all-requires-clause-own
+take_all-requires-clause-own g c = own_same c.args.plane.now c.args.self.now c.let_go_of_copy.new.self c.requires.own c.let_go_of_copy.ensures.plane
 
-pub expire-requires-clause-stands : goal.expire-requires-clause-stands
-expire-requires-clause-stands g c =
-    let rules = c.requires.ready.0 in
-    let l = c.requires.ready.1 in
-    let u = c.requires.ready.2 in
-    let s = c.requires.ready.3 in
-    let f = c.in_ok-archived.ensures.finished rules l u s in
-    (rules, ticked_at rules (finished_at l (split_by c.in_ok-archived.archived)) c.args.clock c.args.tick, (c.in_ok-closed.ensures.ticked rules (finished_at l (split_by c.in_ok-archived.archived)) nothing_unfinished f.stands).stands.stands)
+pub take_all-requires-clause-stands : goal.take_all-requires-clause-stands
+take_all-requires-clause-stands g c = let (rules, l, u, s, late, room) = c.requires.ready in (rules, l, (c.let_go_of_copy.ensures.same rules l u s).amid)
 
-pub returns-in_err-left-clause-recorded : goal.returns-in_err-left-clause-recorded
-returns-in_err-left-clause-recorded g c =
-    let recorded : (rules : Rules) (l : Ledger) (u : Unfinished) → StandsFor c.args.self.now rules l u → StandsForSame c.expire.new.self rules l = λ rules l u s.
-    let f = c.in_ok-archived.ensures.finished rules l u s in
-    let t = c.in_ok-closed.ensures.ticked rules (finished_at l (split_by c.in_ok-archived.archived)) nothing_unfinished f.stands in
-    recorded_expired c.close.new.self c.expire.new.self rules l (split_by c.in_ok-archived.archived) c.args.clock c.args.tick t.stands
-    (c.expire.ensures.expired rules (ticked_at rules (finished_at l (split_by c.in_ok-archived.archived)) c.args.clock c.args.tick) t.stands.stands) c.expire.ensures.noted in
-    on_err _ recorded
+pub returns-in_err-take_all-clause-recorded : goal.returns-in_err-take_all-clause-recorded
+returns-in_err-take_all-clause-recorded g c = on_err _ (recorded_same c.args.self.now c.take_all.new.self (still_then c.args.self.now c.let_go_of_copy.new.self c.take_all.new.self c.let_go_of_copy.ensures.same c.take_all.ensures.same))
+
+pub pass-requires-clause-ready : goal.pass-requires-clause-ready
+pass-requires-clause-ready g c = let (rules, l, u, s, late, room) = c.requires.ready in (rules, l, u, c.in_ok-take_all.ensures.whole rules l u (c.let_go_of_copy.ensures.same rules l u s), late, room)
 
 pub returns-clause-told : goal.returns-clause-told
-returns-clause-told g c = λ rules l u s.
-    let x : ShelfView = view_of g.H.Shelf.tells g.H.Shelf.contents g.H.Shelf.faults c.args.shelf.now in
-    let y : ShelfView = view_of g.H.Shelf.tells g.H.Shelf.contents g.H.Shelf.faults c.finish.new.shelf in
-    let z : ShelfView = view_of g.H.Shelf.tells g.H.Shelf.contents g.H.Shelf.faults c.expire.new.shelf in
-    let f = c.in_ok-archived.ensures.finished rules l u s in
-    let t = c.in_ok-closed.ensures.ticked rules (finished_at l (split_by c.in_ok-archived.archived)) nothing_unfinished f.stands in
-    let m : Ledger = ticked_at rules (finished_at l (split_by c.in_ok-archived.archived)) c.args.clock c.args.tick in
-    let p : Parts c.args.self.now c.close.new.self c.expire.new.self rules l u c.args.clock c.args.tick c.in_ok-archived.archived c.in_ok-closed.closed c.in_ok-left.left.items c.finish.new.self x y z = record {
-      finished = f;
-      ticked = t;
-      expired = c.in_ok-left.ensures.discarded rules m t.stands.stands;
-      stands = c.expire.ensures.expired rules m t.stands.stands;
-      noted = c.expire.ensures.noted;
-    } in
-    subst (λ left. IsPassed rules l c.args.clock c.args.tick (outcome_of c.in_ok-archived.archived c.in_ok-closed.closed left)) (sym c.of.ensures) (told c.args.self.now c.close.new.self c.expire.new.self c.finish.new.self rules l u c.args.clock c.args.tick c.in_ok-archived.archived c.in_ok-closed.closed c.in_ok-left.left.items x y z p)
+returns-clause-told g c = if_ok c.pass.result (λ b told rules l u s. told rules l u (c.in_ok-take_all.ensures.whole rules l u (c.let_go_of_copy.ensures.same rules l u s))) c.pass.ensures.told
 
 pub returns-clause-passed : goal.returns-clause-passed
-returns-clause-passed g c = λ rules l u s.
-    let x : ShelfView = view_of g.H.Shelf.tells g.H.Shelf.contents g.H.Shelf.faults c.args.shelf.now in
-    let y : ShelfView = view_of g.H.Shelf.tells g.H.Shelf.contents g.H.Shelf.faults c.finish.new.shelf in
-    let z : ShelfView = view_of g.H.Shelf.tells g.H.Shelf.contents g.H.Shelf.faults c.expire.new.shelf in
-    let f = c.in_ok-archived.ensures.finished rules l u s in
-    let t = c.in_ok-closed.ensures.ticked rules (finished_at l (split_by c.in_ok-archived.archived)) nothing_unfinished f.stands in
-    let m : Ledger = ticked_at rules (finished_at l (split_by c.in_ok-archived.archived)) c.args.clock c.args.tick in
-    let p : Parts c.args.self.now c.close.new.self c.expire.new.self rules l u c.args.clock c.args.tick c.in_ok-archived.archived c.in_ok-closed.closed c.in_ok-left.left.items c.finish.new.self x y z = record {
-      finished = f;
-      ticked = t;
-      expired = c.in_ok-left.ensures.discarded rules m t.stands.stands;
-      stands = c.expire.ensures.expired rules m t.stands.stands;
-      noted = c.expire.ensures.noted;
-    } in
-    subst (λ left. StandsFor c.expire.new.self rules (behind_barrier rules l c.args.clock c.args.tick (split_by c.in_ok-archived.archived) (map number_of left)) nothing_unfinished) (sym c.of.ensures) (passed c.args.self.now c.close.new.self c.expire.new.self c.finish.new.self rules l u c.args.clock c.args.tick c.in_ok-archived.archived c.in_ok-closed.closed c.in_ok-left.left.items x y z p)
+returns-clause-passed g c = if_ok c.pass.result (λ b passed rules l u s. for_of c.pass.new.self rules _ _ (passed rules l u (c.in_ok-take_all.ensures.whole rules l u (c.let_go_of_copy.ensures.same rules l u s)))) c.pass.ensures.passed
 
 pub returns-clause-paid : goal.returns-clause-paid
-returns-clause-paid g c = λ rules l u s.
-    let x : ShelfView = view_of g.H.Shelf.tells g.H.Shelf.contents g.H.Shelf.faults c.args.shelf.now in
-    let y : ShelfView = view_of g.H.Shelf.tells g.H.Shelf.contents g.H.Shelf.faults c.finish.new.shelf in
-    let z : ShelfView = view_of g.H.Shelf.tells g.H.Shelf.contents g.H.Shelf.faults c.expire.new.shelf in
-    let f = c.in_ok-archived.ensures.finished rules l u s in
-    let t = c.in_ok-closed.ensures.ticked rules (finished_at l (split_by c.in_ok-archived.archived)) nothing_unfinished f.stands in
-    let m : Ledger = ticked_at rules (finished_at l (split_by c.in_ok-archived.archived)) c.args.clock c.args.tick in
-    let p : Parts c.args.self.now c.close.new.self c.expire.new.self rules l u c.args.clock c.args.tick c.in_ok-archived.archived c.in_ok-closed.closed c.in_ok-left.left.items c.finish.new.self x y z = record {
-      finished = f;
-      ticked = t;
-      expired = c.in_ok-left.ensures.discarded rules m t.stands.stands;
-      stands = c.expire.ensures.expired rules m t.stands.stands;
-      noted = c.expire.ensures.noted;
-    } in
-    subst (λ left. RoseBy (marks_of (outcome_of c.in_ok-archived.archived c.in_ok-closed.closed left) - u.refused) x.faults z.faults) (sym c.of.ensures) (paid c.args.self.now c.close.new.self c.expire.new.self c.finish.new.self rules l u c.args.clock c.args.tick c.in_ok-archived.archived c.in_ok-closed.closed c.in_ok-left.left.items x y z p)
+returns-clause-paid g c = if_ok c.pass.result (λ b paid rules l u s. paid rules l u (c.in_ok-take_all.ensures.whole rules l u (c.let_go_of_copy.ensures.same rules l u s))) c.pass.ensures.paid
 
 pub returns-clause-holds : goal.returns-clause-holds
-returns-clause-holds g c = λ rules l u s tells h held true_bits.
-    let x : ShelfView = view_of g.H.Shelf.tells g.H.Shelf.contents g.H.Shelf.faults c.args.shelf.now in
-    let y : ShelfView = view_of g.H.Shelf.tells g.H.Shelf.contents g.H.Shelf.faults c.finish.new.shelf in
-    let z : ShelfView = view_of g.H.Shelf.tells g.H.Shelf.contents g.H.Shelf.faults c.expire.new.shelf in
-    let f = c.in_ok-archived.ensures.finished rules l u s in
-    let t = c.in_ok-closed.ensures.ticked rules (finished_at l (split_by c.in_ok-archived.archived)) nothing_unfinished f.stands in
-    let m : Ledger = ticked_at rules (finished_at l (split_by c.in_ok-archived.archived)) c.args.clock c.args.tick in
-    let p : Parts c.args.self.now c.close.new.self c.expire.new.self rules l u c.args.clock c.args.tick c.in_ok-archived.archived c.in_ok-closed.closed c.in_ok-left.left.items c.finish.new.self x y z = record {
-      finished = f;
-      ticked = t;
-      expired = c.in_ok-left.ensures.discarded rules m t.stands.stands;
-      stands = c.expire.ensures.expired rules m t.stands.stands;
-      noted = c.expire.ensures.noted;
-    } in
-    subst (λ left. Holds rules z.contents (behind_barrier rules l c.args.clock c.args.tick (split_by c.in_ok-archived.archived) (map number_of left))) (sym c.of.ensures)
-    (holds c.args.self.now c.close.new.self c.expire.new.self c.finish.new.self rules l u c.args.clock c.args.tick c.in_ok-archived.archived c.in_ok-closed.closed c.in_ok-left.left.items x y z p c.finish.ensures.still tells h held true_bits)
+returns-clause-holds g c = if_ok c.pass.result (λ b holds rules l u s. holds rules l u (c.in_ok-take_all.ensures.whole rules l u (c.let_go_of_copy.ensures.same rules l u s))) c.pass.ensures.holds
 
 pub returns-clause-others : goal.returns-clause-others
-returns-clause-others g c = λ rules l u s tells.
-    let x : ShelfView = view_of g.H.Shelf.tells g.H.Shelf.contents g.H.Shelf.faults c.args.shelf.now in
-    let y : ShelfView = view_of g.H.Shelf.tells g.H.Shelf.contents g.H.Shelf.faults c.finish.new.shelf in
-    let z : ShelfView = view_of g.H.Shelf.tells g.H.Shelf.contents g.H.Shelf.faults c.expire.new.shelf in
-    let f = c.in_ok-archived.ensures.finished rules l u s in
-    let t = c.in_ok-closed.ensures.ticked rules (finished_at l (split_by c.in_ok-archived.archived)) nothing_unfinished f.stands in
-    let m : Ledger = ticked_at rules (finished_at l (split_by c.in_ok-archived.archived)) c.args.clock c.args.tick in
-    let p : Parts c.args.self.now c.close.new.self c.expire.new.self rules l u c.args.clock c.args.tick c.in_ok-archived.archived c.in_ok-closed.closed c.in_ok-left.left.items c.finish.new.self x y z = record {
-      finished = f;
-      ticked = t;
-      expired = c.in_ok-left.ensures.discarded rules m t.stands.stands;
-      stands = c.expire.ensures.expired rules m t.stands.stands;
-      noted = c.expire.ensures.noted;
-    } in
-    others c.args.self.now c.close.new.self c.expire.new.self c.finish.new.self rules l u c.args.clock c.args.tick c.in_ok-archived.archived c.in_ok-closed.closed c.in_ok-left.left.items x y z p c.finish.ensures.still tells
+returns-clause-others g c = on_ok c.pass.result (λ others rules l u s. others rules l u (c.in_ok-take_all.ensures.whole rules l u (c.let_go_of_copy.ensures.same rules l u s))) c.pass.ensures.others
+
+pub returns-clause-recorded : goal.returns-clause-recorded
+returns-clause-recorded g c = on_err_from c.pass.result (λ recorded rules l u s. recorded rules l u (c.in_ok-take_all.ensures.whole rules l u (c.let_go_of_copy.ensures.same rules l u s))) c.pass.ensures.recorded

@@ -48,5 +48,5 @@ returns-clause-finished g c = λ rules l u s.
     subst (λ ss. Stands c.settle.new.self rules (settled_all l ss)) c.deref-4.ensures.value
     (c.settle.ensures.settled rules l s.stands (λ one has. f.each one (subst (λ ss. Contains ss one) c.deref-4.ensures.value has))) in
     finished_some c.args.self.now _ rules l u l.closed_at_archive c.in-Some.notes c.in_ok-settled.settled.items _ x z s.stands refl notes f
-    (stands_same c.settle.new.self _ rules (settled_all l c.in_ok-settled.settled.items) stands refl refl refl refl refl refl refl refl refl refl refl) refl
+    (stands_same c.settle.new.self _ rules (settled_all l c.in_ok-settled.settled.items) stands refl refl refl refl refl refl refl refl refl refl refl refl) refl
     (c.in_ok-put.ensures ∙ ap pages_put c.deref-2.ensures.value) (c.in_ok-kept.ensures ∙ ap pages_kept c.deref-3.ensures.value)

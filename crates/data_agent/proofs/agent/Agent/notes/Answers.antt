@@ -10,7 +10,7 @@ pub pages-init : goal.pages-init
 pages-init g c = record {
   later = omega arith;
   still = refl;
-  within = let (rules, l, s) = c.requires in let e = s.pages.count in let p = s.pages.page in omega (arith, c.first-number.ensures);
+  within = let (rules, l, s) = c.requires in let e = s.count in let p = s.pages.page in omega (arith, c.first-number.ensures);
   noted = λ rules m s.
       let x : ShelfView = view_of g.H.Shelf.tells g.H.Shelf.contents g.H.Shelf.faults c.args.shelf.now in
       subst (λ n. NotesTo rules m c.args.self.now.catalogue.gone n c.new-notes.result.items x x) (sym c.first-number.ensures)
@@ -34,3 +34,10 @@ pages-preserved g c =
           subst (λ ns. NotesTo rules m c.args.self.now.catalogue.gone (c.pages.number + 1) ns x z) items
           (notes_more rules m c.args.self.now.catalogue.gone c.pages.number c.pages.notes.items c.in_ok-note.field-0 x y z (omega (arith, c.first-number.ensures, c.pages.auto.number)) (c.pages.invariant.noted rules m s) (c.in_ok-note.ensures.noted rules m s));
     }
+
+pub returns-clause-noted : goal.returns-clause-noted
+returns-clause-noted g c = λ rules m s.
+    let x : ShelfView = view_of g.H.Shelf.tells g.H.Shelf.contents g.H.Shelf.faults c.args.shelf.now in
+    let z : ShelfView = view_of g.H.Shelf.tells g.H.Shelf.contents g.H.Shelf.faults c.pages.shelf in
+    let at : c.pages.number ≡ c.args.self.now.page.number = omega (arith, c.pages.invariant.within, c.pages-test.false) in
+    subst (λ n. NotesTo rules m c.args.self.now.catalogue.gone n c.pages.notes.items x z) at (c.pages.invariant.noted rules m s)

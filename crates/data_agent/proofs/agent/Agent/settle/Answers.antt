@@ -5,6 +5,7 @@ use Rattle.page_catalogue.specs.Catalogues.{Catalogued}
 use Rattle.data_agent.specs.Finishing.{settled_all}
 use Rattle.data_agent.specs.Standing.{Stands}
 use Rattle.data_agent.proofs.Shelving.{settled_more}
+use Rattle.data_agent.proofs.Planes.{plane_then}
 use Rattle.data_agent.proofs.agent.Agent.settle.Goals as goal
 
 pub settle_one-requires : goal.settle_one-requires
@@ -30,6 +31,7 @@ loop-one-preserved c =
       catalogue = c.settle_one.ensures.rest.0 ∙ c.loop-one.invariant.catalogue;
       page = c.settle_one.ensures.rest.1 ∙ c.loop-one.invariant.page;
       noted = c.settle_one.ensures.rest.2 ∙ c.loop-one.invariant.noted;
+      plane = plane_then c.args.self.now c.loop-one.self c.settle_one.new.self c.loop-one.invariant.plane c.settle_one.ensures.plane;
       settled = λ rules m s each.
           subst (λ ss. Stands c.settle_one.new.self rules (settled_all m ss)) (sym e)
           (subst (Stands c.settle_one.new.self rules) (sym (settled_more m (take c.loop-one.one-index c.args.settled.now) one))

@@ -1,0 +1,226 @@
+-- An agent and its plane.
+use Rattle.std.proofs.Common.{ℕ, ◌≡◌, ◌≤◌, ◌<◌, ◌+◌, ◌∙◌, List, length, Bool, false, not, ◌&&◌, Option, Some, None, sym, ap, subst, refl, arith}
+use Rattle.spie_base.specs.Shapes.{shape_of}
+use Rattle.spie_base.specs.declared.Entry.{Entry}
+use Rattle.spie_base.specs.declared.PageShape.{PageShape}
+use Rattle.spie_base.specs.declared.Rules.{Rules}
+use Rattle.spie_base.specs.declared.Sig.{Sig}
+use Rattle.bloom_page.specs.Sets.{PageSet, are_in, is_in}
+use Rattle.hash_family.specs.Positions.{family_of, marks_of}
+use Rattle.page_gate.specs.Held.{Held, PlaneId}
+use Rattle.page_gate.specs.Probes.{marked_set}
+use Rattle.router_account.specs.Account.{Account}
+use Rattle.page_shelf.specs.Shelves.{Contents}
+use Rattle.router_account.specs.Ledger.{Ledger, Unfinished, at_archive, turned_at}
+use Rattle.data_agent.specs.declared.agent.Agent.{Agent}
+use Rattle.data_agent.specs.declared.resident.Resident.{Resident}
+use Rattle.data_agent.specs.Calls.{IsNoted, Meaning, MayTurn, with_more}
+use Rattle.data_agent.specs.Passing.{StandsForSame}
+use Rattle.data_agent.proofs.Kept.{for_of}
+use Rattle.data_agent.proofs.Passing.{IsCount}
+use Rattle.data_agent.specs.Planes.{HasCopy, IsCopy, IsOwnPlane, IsPlaneSame, IsProbed, IsRestSame}
+use Rattle.data_agent.specs.Residents.{IsResident}
+use Rattle.data_agent.specs.Standing.{HasNotes, HasPages, IsKeeping, Stands, StandsAmid, StandsFor, StandsWhole, StillStands, StillWhole, standing}
+use Rattle.data_agent.specs.Watching.{shows_now}
+use Rattle.data_agent.proofs.Steps.{amid_then}
+
+-- ---- the agent's own plane
+
+module _ (plane : PlaneId) (agent : Agent) (rules : Rules) (a : Account) (own : IsOwnPlane plane agent) (s : HasPages agent rules a) where
+  pub own_shape : plane.shape ≡ shape_of rules a.router
+  own_shape = own.shape ∙ ap (λ (r : Rules). shape_of r agent.router.number) s.rules_are ∙ ap (λ (n : ℕ). shape_of rules n) s.router
+
+  pub own_keeping : IsKeeping plane.shape agent.keeper a.entries (standing agent) (length a.closings)
+  own_keeping = subst (λ (shape : PageShape). IsKeeping shape agent.keeper a.entries (standing agent) (length a.closings)) (sym own_shape) s.keeping
+
+  -- what a call on the plane keeps, by the agent's own shape
+  pub kept_by : (keeper : Held) (first last : ℕ) → IsKeeping plane.shape keeper a.entries first last → IsKeeping (shape_of rules a.router) keeper a.entries first last
+  kept_by keeper first last = subst (λ (shape : PageShape). IsKeeping shape keeper a.entries first last) own_shape
+
+  pub kept_then : (keeper : Held) → ((entries : List Entry) (first last : ℕ) → IsKeeping plane.shape agent.keeper entries first last → IsKeeping plane.shape keeper entries first last)
+      → IsKeeping (shape_of rules a.router) agent.keeper a.entries (standing agent) (length a.closings) → IsKeeping (shape_of rules a.router) keeper a.entries (standing agent) (length a.closings)
+  kept_then keeper kept k = kept_by keeper (standing agent) (length a.closings) (kept a.entries (standing agent) (length a.closings) own_keeping)
+
+-- the plane stays the agent's
+pub own_same : (plane : PlaneId) (old new : Agent) → IsOwnPlane plane old → IsPlaneSame old new → IsOwnPlane plane new
+own_same plane old new own same = record {
+  table = ap (λ (k : Held). k.table) same.keeper ∙ own.table;
+  shape = own.shape ∙ ap (λ (r : Rules). shape_of r old.router.number) (sym same.rules) ∙ ap (λ r. shape_of new.rules r.number) (sym same.router);
+}
+
+pub own_with : (plane : PlaneId) (old new : Agent) → IsOwnPlane plane old → new.keeper.table ≡ old.keeper.table → new.rules ≡ old.rules → new.router ≡ old.router → IsOwnPlane plane new
+own_with plane old new own table rules router = record {
+  table = table ∙ own.table;
+  shape = own.shape ∙ ap (λ (r : Rules). shape_of r old.router.number) (sym rules) ∙ ap (λ r. shape_of new.rules r.number) (sym router);
+}
+
+pub plane_then : (a b c : Agent) → IsPlaneSame a b → IsPlaneSame b c → IsPlaneSame a c
+plane_then a b c x y = record { keeper = y.keeper ∙ x.keeper; rules = y.rules ∙ x.rules; router = y.router ∙ x.router }
+
+-- ---- an agent of which only the keeper and the collected pages differ
+
+pub for_same : (old new : Agent) → IsRestSame old new → ((rules : Rules) (l : Ledger) → StandsAmid old rules l → StandsAmid new rules l) → StillStands old new
+for_same old new rest kept rules l u s = record { amid = kept rules l s.amid; noted = subst (HasNotes rules l u l.closed_at_archive) (sym rest.noted) s.noted }
+
+pub rest_then : (a b c : Agent) → IsRestSame a b → IsRestSame b c → IsRestSame a c
+rest_then a b c x y = record { catalogue = y.catalogue ∙ x.catalogue; page = y.page ∙ x.page; noted = y.noted ∙ x.noted }
+
+pub may_turn : (old new : Agent) (clock : ℕ) → StillStands old new → MayTurn (StandsFor old) clock → MayTurn (StandsFor new) clock
+may_turn old new clock still (rules, l, u, s, late, room) = (rules, l, u, still rules l u s, late, room)
+
+-- ---- a page that is collected or copied
+
+-- its bits are the marks of its entries
+pub resident_of : (plane : PlaneId) (agent : Agent) (rules : Rules) (a : Account) (page : ℕ) (r : Resident) → IsOwnPlane plane agent → HasPages agent rules a
+    → r.family.value ≡ family_of (shape_of agent.rules agent.router.number) page → r.page ≡ marked_set plane.shape a.entries page → IsResident rules a page r
+resident_of plane agent rules a page r own s family is =
+    let shape = own_shape plane agent rules a own s in
+    record {
+      family = family ∙ ap (λ (x : PageShape). family_of x page) (sym own.shape ∙ shape);
+      page_is = is ∙ ap (λ (x : PageShape). marked_set x a.entries page) shape;
+    }
+
+-- a copy shows what is recorded
+pub copy_of : (agent : Agent) (rules : Rules) (l : Ledger) (r : Resident) → Stands agent rules l → IsCopy agent r → IsResident rules l.account agent.page.number r
+copy_of agent rules l r s is =
+    let shape : shape_of agent.rules agent.router.number ≡ shape_of rules l.account.router = ap (λ (x : Rules). shape_of x agent.router.number) s.pages.rules_are ∙ ap (λ (n : ℕ). shape_of rules n) s.pages.router in
+    record {
+      family = is.family ∙ ap (λ (x : PageShape). family_of x agent.page.number) shape;
+      page_is = is.page_is ∙ ap (λ (x : PageShape). marked_set x agent.keeper.view.entries agent.page.number) shape ∙ ap (λ (es : List Entry). marked_set (shape_of rules l.account.router) es agent.page.number) s.pages.keeping.has;
+    }
+
+pub some_copy : (agent : Agent) (copied : Option Resident) → HasCopy agent copied → (r : Resident) → copied ≡ Some r → IsCopy agent r
+some_copy agent copied has r is = subst (HasCopy agent) is has
+
+pub none_copy : (agent : Agent) (copied : Option Resident) → HasCopy agent copied → copied ≡ None → ⊥
+none_copy agent copied has is = subst (HasCopy agent) is has
+
+-- ---- a probe
+
+pub probed_shows : (plane : PlaneId) (agent : Agent) (rules : Rules) (l : Ledger) (sig : Sig) (page : ℕ) (answer : Bool) → IsOwnPlane plane agent → StandsAmid agent rules l → standing agent ≤ page
+    → ((entries : List Entry) (first last : ℕ) → IsKeeping plane.shape agent.keeper entries first last → answer ≡ are_in (marked_set plane.shape entries page).members (marks_of plane.shape page sig))
+    → answer ≡ shows_now rules l sig page
+probed_shows plane agent rules l sig page answer own s near found =
+    let shape = own_shape plane agent rules l.account own s.pages in
+    let unput : is_in l.put_before page ≡ false = (s.to_come page near).unput in
+    found l.account.entries (standing agent) (length l.account.closings) (own_keeping plane agent rules l.account own s.pages)
+    ∙ ap (λ (x : PageShape). are_in (marked_set x l.account.entries page).members (marks_of x page sig)) shape
+    ∙ ap (λ (b : Bool). not b && are_in (marked_set (shape_of rules l.account.router) l.account.entries page).members (marks_of (shape_of rules l.account.router) page sig)) (sym unput)
+
+-- ---- the page that stands in a slot longest
+
+pub take_needs : (plane : PlaneId) (agent : Agent) (page : ℕ) → IsOwnPlane plane agent → ((rules : Rules) × (l : Ledger) × StandsAmid agent rules l × (standing agent < agent.page.number)) → page ≡ standing agent
+    → (entries : List Entry) × (last : ℕ) × IsKeeping plane.shape agent.keeper entries page last × (page < last)
+take_needs plane agent page own (rules, l, s, lt) at =
+    let end = s.pages.page in
+    (l.account.entries, length l.account.closings, subst (λ (n : ℕ). IsKeeping plane.shape agent.keeper l.account.entries n (length l.account.closings)) (sym at) (own_keeping plane agent rules l.account own s.pages), (omega arith))
+
+module _ (plane : PlaneId) (agent : Agent) (rules : Rules) (a : Account) (own : IsOwnPlane plane agent) (s : HasPages agent rules a) (page : ℕ) (at : page ≡ standing agent) where
+  pub keeping_at : IsKeeping plane.shape agent.keeper a.entries page (length a.closings)
+  keeping_at = subst (λ (n : ℕ). IsKeeping plane.shape agent.keeper a.entries n (length a.closings)) (sym at) (own_keeping plane agent rules a own s)
+
+  -- none was collected
+  pub kept_at : (keeper : Held) → ((entries : List Entry) (last : ℕ) → IsKeeping plane.shape agent.keeper entries page last → IsKeeping plane.shape keeper entries page last)
+      → IsKeeping (shape_of rules a.router) agent.keeper a.entries (standing agent) (length a.closings) → IsKeeping (shape_of rules a.router) keeper a.entries (standing agent) (length a.closings)
+  kept_at keeper kept k = kept_by plane agent rules a own s keeper (standing agent) (length a.closings) (subst (λ (n : ℕ). IsKeeping plane.shape keeper a.entries n (length a.closings)) at (kept a.entries (length a.closings) keeping_at))
+
+  -- it was
+  pub taken_at : (keeper : Held) → ((entries : List Entry) (last : ℕ) → IsKeeping plane.shape agent.keeper entries page last → IsKeeping plane.shape keeper entries (page + 1) last)
+      → IsKeeping (shape_of rules a.router) keeper a.entries (standing agent + 1) (length a.closings)
+  taken_at keeper taken = kept_by plane agent rules a own s keeper (standing agent + 1) (length a.closings) (subst (λ (n : ℕ). IsKeeping plane.shape keeper a.entries (n + 1) (length a.closings)) at (taken a.entries (length a.closings) keeping_at))
+
+  pub resident_at : (r : Resident) → r.family.value ≡ family_of (shape_of agent.rules agent.router.number) page
+      → ((entries : List Entry) (last : ℕ) → IsKeeping plane.shape agent.keeper entries page last → r.page ≡ marked_set plane.shape entries page) → IsResident rules a (standing agent) r
+  resident_at r family bits = subst (λ (n : ℕ). IsResident rules a n r) at (resident_of plane agent rules a page r own s family (bits a.entries (length a.closings) keeping_at))
+
+-- ---- a copy of the open page
+
+module _ (plane : PlaneId) (agent : Agent) (rules : Rules) (l : Ledger) (u : Unfinished) (own : IsOwnPlane plane agent) (s : StandsFor agent rules l u) where
+  pub copy_needs : (entries : List Entry) × (first : ℕ) × IsKeeping plane.shape agent.keeper entries first agent.page.number
+  copy_needs = (l.account.entries, standing agent, subst (λ (n : ℕ). IsKeeping plane.shape agent.keeper l.account.entries (standing agent) n) (sym s.amid.pages.page) (own_keeping plane agent rules l.account own s.amid.pages))
+
+pub copied_bits : (plane : PlaneId) (agent : Agent) (keeper : Held) (bits : PageSet) (rules : Rules) (l : Ledger) (u : Unfinished) → IsOwnPlane plane agent → StandsFor agent rules l u
+    → ((entries : List Entry) (first last : ℕ) → IsKeeping plane.shape agent.keeper entries first last → IsKeeping plane.shape keeper entries first last)
+    → ((entries : List Entry) (first last : ℕ) → IsKeeping plane.shape agent.keeper entries first last → bits ≡ marked_set plane.shape entries agent.page.number)
+    → bits ≡ marked_set (shape_of agent.rules agent.router.number) keeper.view.entries agent.page.number
+copied_bits plane agent keeper bits rules l u own s same told =
+    let k = own_keeping plane agent rules l.account own s.amid.pages in
+    let k2 = same l.account.entries (standing agent) (length l.account.closings) k in
+    told l.account.entries (standing agent) (length l.account.closings) k
+    ∙ ap (λ (x : PageShape). marked_set x l.account.entries agent.page.number) own.shape
+    ∙ ap (λ (es : List Entry). marked_set (shape_of agent.rules agent.router.number) es agent.page.number) (sym k2.has)
+
+-- the keeper noted reads, and the copy is another
+pub for_copied : (plane : PlaneId) (old new : Agent) (rules : Rules) (l : Ledger) (u : Unfinished) → IsOwnPlane plane old
+    → new.rules ≡ old.rules → new.router ≡ old.router → new.page ≡ old.page → new.earliest ≡ old.earliest → new.marked ≡ old.marked → new.closed.items ≡ old.closed.items → new.catalogue ≡ old.catalogue → new.table ≡ old.table → new.noted ≡ old.noted
+    → ((entries : List Entry) (first last : ℕ) → IsKeeping plane.shape old.keeper entries first last → IsKeeping plane.shape new.keeper entries first last) → StandsFor old rules l u → StandsFor new rules l u
+for_copied plane old new rules l u own same_rules router page first marked items catalogue table noted same s = record {
+  amid = amid_then old new rules l s.amid same_rules router page first marked items catalogue table (kept_then plane old rules l.account own s.amid.pages new.keeper same);
+  noted = subst (HasNotes rules l u l.closed_at_archive) (sym noted) s.noted;
+}
+
+-- a page that stands in a slot may be probed
+pub probe_needs : (plane : PlaneId) (agent : Agent) (rules : Rules) (l : Ledger) (page : ℕ) → IsOwnPlane plane agent → StandsAmid agent rules l → standing agent ≤ page → page ≤ agent.page.number
+    → (entries : List Entry) × (first : ℕ) × (last : ℕ) × IsKeeping plane.shape agent.keeper entries first last × (first ≤ page) × (page ≤ last)
+probe_needs plane agent rules l page own s from to =
+    let end = s.pages.page in
+    (l.account.entries, standing agent, length l.account.closings, own_keeping plane agent rules l.account own s.pages, from, (omega arith))
+
+pub for_probed : (old new : Agent) → IsProbed old new → ((rules : Rules) (l : Ledger) → StandsAmid old rules l → StandsAmid new rules l) → StillStands old new
+for_probed old new probed kept rules l u s = record { amid = kept rules l s.amid; noted = subst (HasNotes rules l u l.closed_at_archive) (sym (ap (λ (a : Agent). a.noted) probed)) s.noted }
+
+pub probed_then : (a b c : Agent) → IsProbed a b → IsProbed b c → IsProbed a c
+probed_then a b c x y = y ∙ ap (λ (d : Agent). record d { keeper = c.keeper }) x
+
+-- ---- what calls tell, one behind the other
+
+pub still_then : (a b c : Agent) → StillStands a b → StillStands b c → StillStands a c
+still_then a b c x y rules l u s = y rules l u (x rules l u s)
+
+pub may_turn_whole : (agent : Agent) (clock : ℕ) → MayTurn (StandsWhole agent) clock → MayTurn (StandsFor agent) clock
+may_turn_whole agent clock (rules, l, u, s, late, room) = (rules, l, u, for_of agent rules l u s, late, room)
+
+pub recorded_whole : (old new : Agent) → StillWhole old new → (rules : Rules) (l : Ledger) (u : Unfinished) → StandsWhole old rules l u → StandsForSame new rules l
+recorded_whole old new same rules l u s = (l, u, for_of new rules l u (same rules l u s), refl, refl, refl)
+
+pub recorded_for : (old new : Agent) → StillStands old new → (rules : Rules) (l : Ledger) (u : Unfinished) → StandsWhole old rules l u → StandsForSame new rules l
+recorded_for old new same rules l u s = (l, u, same rules l u (for_of old rules l u s), refl, refl, refl)
+
+pub recorded_turned : (old after new : Agent) (clock : ℕ) → ((rules : Rules) (l : Ledger) (u : Unfinished) → StandsFor old rules l u → StandsFor after rules (turned_at l clock) u) → StillStands after new
+    → (rules : Rules) (l : Ledger) (u : Unfinished) → StandsWhole old rules l u → StandsForSame new rules l
+recorded_turned old after new clock turned same rules l u s = (turned_at l clock, u, same rules (turned_at l clock) u (turned rules l u (for_of old rules l u s)), refl, refl, refl)
+
+pub recorded_before : (old after new : Agent) → StillWhole old after → ((rules : Rules) (l : Ledger) (u : Unfinished) → StandsWhole after rules l u → StandsForSame new rules l)
+    → (rules : Rules) (l : Ledger) (u : Unfinished) → StandsWhole old rules l u → StandsForSame new rules l
+recorded_before old after new same recorded rules l u s = recorded rules l u (same rules l u s)
+
+pub noted_amid : (before before_amid after after_amid : Meaning) (more : Unfinished) (tells : Bool) (old new : Contents) → ((rules : Rules) (l : Ledger) (u : Unfinished) → before_amid rules l u → before rules l u)
+    → ((rules : Rules) (l : Ledger) (u : Unfinished) → after rules l u → after_amid rules l u) → IsNoted before after more tells old new → IsNoted before_amid after_amid more tells old new
+noted_amid before before_amid after after_amid more tells old new whole amid n = record {
+  noted = λ rules l u s. amid rules (at_archive l) (with_more u more) (n.noted rules l u (whole rules l u s));
+  closed = λ rules l u s. n.closed rules l u (whole rules l u s);
+  bits = λ rules l u s. n.bits rules l u (whole rules l u s);
+  holds = λ rules l u s. n.holds rules l u (whole rules l u s);
+  holds_bits = λ rules l u s. n.holds_bits rules l u (whole rules l u s);
+  others = λ rules l u s. n.others rules l u (whole rules l u s);
+}
+
+-- ---- the bits of the open page are counted
+
+pub count_needs : (plane : PlaneId) (agent : Agent) (rules : Rules) (l : Ledger) → IsOwnPlane plane agent → Stands agent rules l → (entries : List Entry) × (first : ℕ) × IsKeeping plane.shape agent.keeper entries first agent.page.number
+count_needs plane agent rules l own s =
+    (l.account.entries, standing agent, subst (λ (n : ℕ). IsKeeping plane.shape agent.keeper l.account.entries (standing agent) n) (sym s.pages.page) (own_keeping plane agent rules l.account own s.pages))
+
+pub count_is : (plane : PlaneId) (agent : Agent) (bits : ℕ) → IsOwnPlane plane agent
+    → ((entries : List Entry) (first last : ℕ) → IsKeeping plane.shape agent.keeper entries first last → bits ≡ length (marked_set plane.shape entries agent.page.number).members) → IsCount agent bits
+count_is plane agent bits own told rules l u s =
+    let pages = s.stands.pages in
+    told l.account.entries (standing agent) (length l.account.closings) (own_keeping plane agent rules l.account own pages)
+    ∙ ap (λ (x : PageShape). length (marked_set x l.account.entries agent.page.number).members) (own_shape plane agent rules l.account own pages)
+    ∙ ap (λ (n : ℕ). length (marked_set (shape_of rules l.account.router) l.account.entries n).members) pages.page
+
+pub kept_shape : (plane : PlaneId) (agent : Agent) (keeper : Held) → IsOwnPlane plane agent → ((entries : List Entry) (first last : ℕ) → IsKeeping plane.shape agent.keeper entries first last → IsKeeping plane.shape keeper entries first last)
+    → (shape : PageShape) (entries : List Entry) (first last : ℕ) → shape ≡ shape_of agent.rules agent.router.number → IsKeeping shape agent.keeper entries first last → IsKeeping shape keeper entries first last
+kept_shape plane agent keeper own same shape entries first last is k =
+    let here : plane.shape ≡ shape = own.shape ∙ sym is in
+    subst (λ (x : PageShape). IsKeeping x keeper entries first last) here (same entries first last (subst (λ (x : PageShape). IsKeeping x agent.keeper entries first last) (sym here) k))
