@@ -3,7 +3,7 @@ use spie_base::PageNo;
 use std::rt::HostRuntime;
 use std::test::Fail;
 use trace_format::read_trace;
-use trace_replay::{has_query, sights_alone};
+use trace_replay::{Yard, has_query, replay_alone, sights_alone};
 
 // One packet along three routers in a line, and a query behind it.
 const THREE_IN_A_LINE: &[u8] =
@@ -18,17 +18,33 @@ fn sights_of_three_in_a_line(rt: HostRuntime) -> Result<(), Fail> {
         return Err(Fail::from("refused"));
     };
     let mut shelf = MemShelf::new(alloc, &[])?;
-    let mut agents = Vec::new(alloc);
+    let mut yard = Yard::new(alloc)?;
     if !has_query(&trace, 13) {
         return Err(Fail::from("no query"));
     }
-    let sights = sights_alone(alloc, &trace, &mut shelf, 13, &mut agents)?;
+    let sights = sights_alone(alloc, &trace, &mut shelf, 13, &mut yard)?;
     assert_eq!(rt; sights.len(), 3);
     for sight in &sights {
         assert_eq!(rt; sight.used(), [PAGE_0].as_slice());
         assert_eq!(rt; sight.expired(), None);
         assert!(rt; sight.unreadable().is_empty());
     }
+    Ok(())
+}
+
+// A yard is empty until a trace is replayed, and then has a router for each of the trace's.
+#[test]
+fn routers_of_three_in_a_line(rt: HostRuntime) -> Result<(), Fail> {
+    let alloc = rt.alloc();
+    let Ok(trace) = read_trace(alloc, THREE_IN_A_LINE) else {
+        return Err(Fail::from("refused"));
+    };
+    let mut shelf = MemShelf::new(alloc, &[])?;
+    let mut yard = Yard::new(alloc)?;
+    assert_eq!(rt; yard.routers(), 0);
+    let replayed = replay_alone(alloc, &trace, &mut shelf, &mut yard)?;
+    assert_eq!(rt; yard.routers(), 3);
+    assert_eq!(rt; replayed.totals.nodes, 3);
     Ok(())
 }
 

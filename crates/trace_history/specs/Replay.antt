@@ -1,4 +1,4 @@
--- What a replay by one worker answers.
+-- What a history says of the report of a replay, and of its shelf. `Workers` has the replay itself.
 use Rattle.std.specs.Prelude.{◌≡◌, ◌<◌, ℕ, List, true}
 use Rattle.report_text.specs.declared.Item.{Item}
 use Rattle.trace_format.specs.declared.Line.{Line}
@@ -9,10 +9,8 @@ use Rattle.trace_history.specs.declared.totals.Totals.{Totals}
 use Rattle.trace_history.specs.History.{History, IsHistoryOf}
 use Rattle.trace_history.specs.Ledgers.{ledger}
 use Rattle.trace_history.specs.Outcomes.{IsAllowed, EachQuery, HasSameDigests, IsTrueQuery, HasOnlyFaults, ArePaid}
-use Rattle.trace_history.specs.Receipts.{IsSequential}
 use Rattle.trace_history.specs.Report.{AreItemsOf, text_of, totals_of}
 use Rattle.trace_history.specs.Routers.{count, rules_of}
-use Rattle.trace_history.specs.Watched.{AreSequentialWatches}
 
 -- what a replay is seen to have done beside its report: the shelf before it and after it
 pub record ReplayViews : Type 0 where
@@ -42,12 +40,3 @@ pub record IsReportOf (t : Trace) (history : History) (text : List ℕ) (totals 
   pub answered : AreItemsOf t history items
   pub text_is : text ≡ text_of t items
   pub totals_are : totals ≡ totals_of items
-
--- some history of the trace's lines, with the receipts and watches of one worker and what a shelf may have done, has
--- this report
-pub record IsReplayed (t : Trace) (text : List ℕ) (totals : Totals) (views : ReplayViews) : Type 0 where
-  pub history : History
-  pub sequential : IsSequential (rules_of t) history
-  pub watched : AreSequentialWatches (rules_of t) history
-  pub done : IsPossible t t.lines views.shelf_before views.shelf_after history
-  pub report : IsReportOf t history text totals

@@ -1,4 +1,4 @@
--- What a replay by W workers answers, with the yard that it fills.
+-- What a replay by W workers answers, with the yard that it fills. Read `IsReplayedBy` first, at the end.
 use Rattle.std.specs.Prelude.{ℕ, ◌+◌, ◌%◌, ◌<◌, ◌≡◌, ◌==◌, List, [], ◌∷◌, ◌++◌, length, slice_get, Some, if◌then◌else◌, Bool, true, false}
 use Rattle.std.specs.List.{flat_map}
 use Rattle.spie_base.specs.Shapes.{shape_of}

@@ -1,25 +1,40 @@
 -- How a replay begins and ends.
-use Rattle.std.proofs.Common.{ℕ, ◌≡◌, ◌<◌, ◌+◌, ◌-◌, ◌∷◌, [], ◌∙◌, true, List, length, get_or, take, sym, ap, refl, subst, arith}
+use Rattle.std.proofs.Common.{ℕ, ◌≡◌, ◌<◌, ◌+◌, ◌-◌, ◌∷◌, [], ◌∙◌, Bool, true, cond, List, length, get_or, take, sym, ap, refl, subst, arith}
+use Rattle.std.specs.Prelude.{slice_get, Some}
 use Rattle.std.proofs.Math.Seq.{take-length}
 use Rattle.spie_base.proofs.Membership.{has_none}
+use Rattle.spie_base.specs.Shapes.{shape_of}
+use Rattle.spie_base.specs.declared.Entry.{Entry}
+use Rattle.spie_base.specs.declared.PageShape.{PageShape}
+use Rattle.page_gate.specs.Held.{PlaneId}
 use Rattle.report_text.specs.declared.Item.TheVariants.{Head}
 use Rattle.trace_format.specs.declared.Line.{Line}
 use Rattle.trace_format.specs.declared.Trace.{Trace}
 use Rattle.trace_format.specs.Sound.{IsSound, AreTimed}
 use Rattle.router_account.specs.Ledger.{Unfinished, first_ledger, nothing_unfinished, no_split}
 use Rattle.router_account.specs.Shelves.{ShelfView}
+use Rattle.data_agent.specs.Laws.{EntriesAre}
+use Rattle.data_agent.specs.Planes.{entries_of}
+use Rattle.data_agent.specs.Standing.{StandsFor}
+use Rattle.data_agent.specs.declared.Agent.{Agent}
 use Rattle.trace_history.specs.declared.Totals.{Totals}
-use Rattle.trace_history.specs.History.{History, IsHistoryOf}
+use Rattle.trace_history.specs.History.{History, IsHistoryOf, account}
+use Rattle.trace_history.specs.Ledgers.{ledger}
 use Rattle.trace_history.specs.Outcomes.{fault_marks}
-use Rattle.trace_history.specs.Replay.{IsPossible, IsReplayed}
+use Rattle.trace_history.specs.Receipts.{segment}
+use Rattle.trace_history.specs.Replay.{IsPossible}
 use Rattle.trace_history.specs.Routers.{count, rules_of, sum_over}
+use Rattle.trace_history.specs.Workers.{YardView, IsYardOf, IsReplayedBy}
+use Rattle.trace_history.proofs.YardFacts.{pages_view, yard_alone, replayed_alone}
 use Rattle.trace_replay.specs.declared.state.Answer.{Answer}
 use Rattle.trace_replay.specs.declared.state.State.{State}
-use Rattle.trace_replay.specs.Agents.{Standing}
+use Rattle.trace_replay.specs.Agents.{Standing, AllStand}
 use Rattle.trace_replay.specs.Loop.{HasDone}
-use Rattle.trace_replay.specs.Segments.{Splits, filled, is_barrier_line, numbered}
+use Rattle.trace_replay.specs.Segments.{Splits, filled, is_barrier_line, numbered, IsBarred}
 use Rattle.trace_replay.specs.Standing.{Stands, IsBegun, IsRight, IsKeptOn, AreFew}
-use Rattle.trace_replay.proofs.Sums.{rose_less, rose_none, sum_none, get_at}
+use Rattle.trace_replay.specs.Yards.{AreBeside, yard_view, yard_views}
+use Rattle.trace_replay.proofs.Beside.{length_views, view_there}
+use Rattle.trace_replay.proofs.Sums.{rose_less, rose_none, sum_none, get_at, some_of}
 
 pub stands_begun : {A : Type 0} (stands : Standing A) (t : Trace) (agents : List A) (s : State) (now : ShelfView) → length agents ≡ count t
     → ((r : ℕ) (d : A) → r < count t → stands (get_or agents r d) (rules_of t r) (first_ledger r) nothing_unfinished) → IsBegun t s → Stands stands t now [] [] agents s now
@@ -97,24 +112,44 @@ last_closes t d sound =
     let last : i + 1 ≡ length t.lines = omega (arith, some) in
     ap is_barrier_line ((sound.ended.last i line (get_at t.lines i d within)).1 last)
 
-pub replayed : {A : Type 0} (stands : Standing A) (t : Trace) (start now : ShelfView) (d : Line) (agents : List A) (s : State) (text : List ℕ) → IsSound t → HasDone stands t start (length t.lines) agents s now → text ≡ s.report.items
-    → IsReplayed t text s.totals (record { shelf_before = start; shelf_after = now })
-replayed stands t start now d agents s text sound done is =
+-- nothing is behind a barrier
+none_behind : (history : History) → IsBarred history → segment history ≡ []
+none_behind [] h = refl
+none_behind (moment ∷ history) h = ap (λ (b : Bool). cond b [] (moment ∷ segment history)) h
+
+-- the yard of a history that is done
+module _ (t : Trace) (history : History) (planes : List PlaneId) (agents : List Agent) (us : ℕ → Unfinished) (beside : AreBeside planes agents) (count_is : length agents ≡ count t)
+    (shapes : (r : ℕ) (p : PlaneId) → r < count t → (get_or planes r p).shape ≡ shape_of (rules_of t r) r)
+    (all : AllStand StandsFor (rules_of t) (λ r. ledger (rules_of t) r history) us agents) (entries : EntriesAre) (barred : IsBarred history) where
+  view_is : (r : ℕ) (p : PlaneId) (a : Agent) → r < count t → yard_view (get_or planes r p) (get_or agents r a) ≡ record { shape = shape_of (rules_of t r) r; entries = (account (rules_of t) r history).entries }
+  view_is r p a l =
+      let within : r < length agents = omega (arith, l, count_is) in
+      let E : PageShape → Type 0 = λ shape. yard_view (get_or planes r p) (get_or agents r a) ≡ record { shape = shape; entries = entries_of (get_or agents r a) } in
+      subst E (shapes r p l) refl
+      ∙ ap (λ (es : List Entry). pages_view (shape_of (rules_of t r) r) es) (entries (get_or agents r a) (rules_of t r) (ledger (rules_of t) r history) (us r) (all.each r a within))
+
+  some_view : (r : ℕ) → r < count t → slice_get (yard_views planes agents) r ≡ Some (record { shape = shape_of (rules_of t r) r; entries = (account (rules_of t) r history).entries })
+  some_view r l =
+      let within : r < length agents = omega (arith, l, count_is) in
+      let c = beside.count in
+      let p = some_of planes r (omega (arith, c, within)) in
+      let a = some_of agents r within in
+      view_there planes agents r p a c within ∙ ap (λ (v : YardView). Some v) (view_is r p a l)
+
+  pub yard_left : IsYardOf 1 t history (yard_views planes agents)
+  yard_left = yard_alone t history (yard_views planes agents) (none_behind history barred) (length_views planes agents beside.count ∙ count_is) some_view
+
+pub replayed : (t : Trace) (start now : ShelfView) (d : Line) (planes : List PlaneId) (agents : List Agent) (s : State) (text : List ℕ) → IsSound t → HasDone StandsFor t start (length t.lines) agents s now → text ≡ s.report.items
+    → AreBeside planes agents → ((r : ℕ) (p : PlaneId) → r < count t → (get_or planes r p).shape ≡ shape_of (rules_of t r) r) → EntriesAre
+    → IsReplayedBy 1 t text s.totals (record { shelf_before = start; shelf_after = now }) (yard_views planes agents)
+replayed t start now d planes agents s text sound done is beside shapes entries =
     let none : done.seg ≡ [] = done.closed d sound.ended.some (last_closes t d sound) in
-    let S : History → Type 0 = λ seg. Stands stands t start done.history seg agents s now in
+    let S : History → Type 0 = λ seg. Stands StandsFor t start done.history seg agents s now in
     let L : History → Type 0 = λ seg. (f : Splits) → IsHistoryOf t.sigs (take (length t.lines) t.lines) (filled f seg done.history) in
     let W : List Line → Type 0 = λ ls. IsHistoryOf t.sigs ls done.history in
     let stood = subst S none done.stood in
     let f : Splits = λ r. no_split in
-    record {
-      history = done.history;
-      sequential = stood.right.sequential f;
-      watched = stood.right.watched f;
-      done = possible t t.lines done.history stood.us start now (subst W (take-length t.lines) (subst L none done.lines_are f)) stood.right stood.shelf;
-      report = record {
-        items = stood.printed.items;
-        answered = stood.printed.answered;
-        text_is = is ∙ stood.printed.report_is;
-        totals_are = stood.printed.totals_are;
-      };
-    }
+    replayed_alone t text s.totals (record { shelf_before = start; shelf_after = now }) (yard_views planes agents) done.history (stood.right.sequential f) (stood.right.watched f)
+    (possible t t.lines done.history stood.us start now (subst W (take-length t.lines) (subst L none done.lines_are f)) stood.right stood.shelf)
+    (record { items = stood.printed.items; answered = stood.printed.answered; text_is = is ∙ stood.printed.report_is; totals_are = stood.printed.totals_are })
+    (yard_left t done.history planes agents stood.us beside stood.count_is shapes (stood.agents_stand f) entries stood.ordered.barred)

@@ -1,5 +1,6 @@
 pub mod Asked
 pub mod Begun
+pub mod Beside
 pub mod Closed
 pub mod Closes
 pub mod Doing
@@ -13,6 +14,7 @@ pub mod Numbered
 pub mod Passed
 pub mod Passing
 pub mod Pieces
+pub mod Preparing
 pub mod Quiet
 pub mod RowCounts
 pub mod Seeing

@@ -77,6 +77,21 @@ module _ {A : Type 0} (stands : Standing A) (t : Trace) (line : Line) (agents : 
   pub agent_in : (router : ℕ) → ((n m : ℕ) → IsWithin n m line.what → router < n) → router < length agents
   agent_in router named = within stands t start history seg agents s s now now ready.3 router (router_in router named)
 
+  pub forward_in : (router : RouterId) (packet : ℕ) → line.what ≡ what.Fwd router packet → router.number < length agents
+  forward_in router packet is = agent_in router.number (λ n m w. let P : What → Type 0 = λ x. IsWithin n m x in (subst P is w).0)
+
+  pub change_in : (router : RouterId) (kind : Kind) (before after : ℕ) → line.what ≡ what.Xf router kind before after → router.number < length agents
+  change_in router kind before after is = agent_in router.number (λ n m w. let P : What → Type 0 = λ x. IsWithin n m x in (subst P is w).0)
+
+  pub watch_in : (router : RouterId) (packet : ℕ) → line.what ≡ what.Watch router packet → router.number < length agents
+  watch_in router packet is = agent_in router.number (λ n m w. let P : What → Type 0 = λ x. IsWithin n m x in (subst P is w).0)
+
+  pub rotate_in : (router : RouterId) → line.what ≡ what.Rotate router → router.number < length agents
+  rotate_in router is = agent_in router.number (λ n m w. let P : What → Type 0 = λ x. IsWithin n m x in subst P is w)
+
+  pub archive_in : (router : RouterId) → line.what ≡ what.Archive router → router.number < length agents
+  archive_in router is = agent_in router.number (λ n m w. let P : What → Type 0 = λ x. IsWithin n m x in subst P is w)
+
   abbrev pub agent_stands : (router : ℕ) → ((n m : ℕ) → IsWithin n m line.what → router < n) → (rules : Rules) × (l : Ledger) × (u : Unfinished) × stands (get_or agents router d) rules l u
   agent_stands router named =
       (rules_of t router, here router, ready.3.us router, stands_at stands t start history seg agents s s now now ready.3 plain router d (router_in router named))

@@ -4,7 +4,6 @@ use Rattle.std.specs.List.{Contains}
 use Rattle.std.specs.Prelude.{slice_get, Some, None}
 use Rattle.std.proofs.lemmas.Bool.{eq-eqb, eqb-true, false_from_ne_true, false≢true}
 use Rattle.std.proofs.lemmas.List.Elements.{Contains-append_cases}
-use Rattle.std.proofs.lemmas.List.{set-get_or}
 use Rattle.spie_base.proofs.Booleans.{none_held}
 use Rattle.spie_base.proofs.Membership.{has_none}
 use Rattle.spie_base.specs.Causes.{RoseBy}
@@ -234,29 +233,28 @@ module _ {A : Type 0} (stands : Standing A) (t : Trace) (line : Line) (agents : 
             }),
       )
 
--- a watch leaves its agent as it is
-pub does_watch : {A : Type 0} (stands : Standing A) (t : Trace) (line : Line) (agents : List A) (d : A) (s s' : State) (was : ShelfView) (router : RouterId) (packet : ℕ) (sig : Sig) (answer : Watch)
-    → line.what ≡ what.Watch router packet → slice_get t.sigs packet ≡ Some sig
-    → ((rules : Rules) (l : Ledger) (u : Unfinished) → stands (get_or agents router.number d) rules l u → answer ≡ watch_of rules l s.clock sig)
-    → Adds s s' (Watched answer)
-    → Does stands t line agents agents s s' was was
-does_watch {A = A} stands t line agents d s s' was router packet sig answer is known call adds start history seg old fits =
-    let event = watched router.number sig answer in
-    let r0 = router.number in
-    let V : What → Type 0 = λ w. IsWithin (count t) (length t.sigs) w in
-    let l0 : r0 < count t = (subst V is fits.within).0 in
-    let W : What → Type 0 = λ w. IsEventOf t.sigs w event in
-    let F = λ (f : Splits). filled f seg history in
-    let had = λ (f : Splits). stands_at stands t start history seg agents s s' was was old f r0 d l0 in
-    let P = λ (xs : List A). Stands stands t start history (moment_of line.number event ∷ seg) xs s' was in (
-      event,
-      subst W (sym is) (refl, known),
-      subst P (set-get_or agents r0 d)
-          (stands_more stands t start history seg agents s s' was was old line.number event r0 (get_or agents r0 d) old.us l0
-          had
-          (λ f r ne. refl) (λ r ne. refl) old.us_none (λ f x h. old.us_closed f r0 x h) refl tt fits.place adds (λ f. tt)
-          (λ f. let Q : ℕ → Type 0 = λ c. answer ≡ watch_of (rules_of t r0) (ledger (rules_of t) r0 (F f)) c sig in
-          subst Q (clock_at stands t start history seg agents s s' was was old f) (call (rules_of t r0) (ledger (rules_of t) r0 (F f)) (old.us r0) (had f)))
-          (λ f hyp. (hyp, tt))
-          (kept_with stands t start history seg agents s s' was was old line.number event r0 (λ f r ne. refl) (λ f h. h))),
-    )
+  -- a watch leaves what its agent stands for as it is
+  pub does_watch : (router : RouterId) (packet : ℕ) (sig : Sig) (answer : Watch) → line.what ≡ what.Watch router packet → slice_get t.sigs packet ≡ Some sig
+      → ((rules : Rules) (l : Ledger) (u : Unfinished) → stands (get_or agents router.number d) rules l u → answer ≡ watch_of rules l s.clock sig)
+      → ((rules : Rules) (l : Ledger) (u : Unfinished) → stands (get_or agents router.number d) rules l u → stands new rules l u)
+      → Adds s s' (Watched answer)
+      → Does stands t line agents (set agents router.number new) s s' was was
+  does_watch router packet sig answer is known call keeps adds start history seg old fits =
+      let event = watched router.number sig answer in
+      let r0 = router.number in
+      let V : What → Type 0 = λ w. IsWithin (count t) (length t.sigs) w in
+      let l0 : r0 < count t = (subst V is fits.within).0 in
+      let W : What → Type 0 = λ w. IsEventOf t.sigs w event in
+      let F = λ (f : Splits). filled f seg history in
+      let L = λ (f : Splits). ledger (rules_of t) r0 (F f) in
+      let had = λ (f : Splits). stands_at stands t start history seg agents s s' was was old f r0 d l0 in (
+        event,
+        subst W (sym is) (refl, known),
+        stands_more stands t start history seg agents s s' was was old line.number event r0 new old.us l0
+            (λ f. keeps (rules_of t r0) (L f) (old.us r0) (had f))
+            (λ f r ne. refl) (λ r ne. refl) old.us_none (λ f x h. old.us_closed f r0 x h) refl tt fits.place adds (λ f. tt)
+            (λ f. let Q : ℕ → Type 0 = λ c. answer ≡ watch_of (rules_of t r0) (L f) c sig in
+            subst Q (clock_at stands t start history seg agents s s' was was old f) (call (rules_of t r0) (L f) (old.us r0) (had f)))
+            (λ f hyp. (hyp, tt))
+            (kept_with stands t start history seg agents s s' was was old line.number event r0 (λ f r ne. refl) (λ f h. h)),
+      )

@@ -6,7 +6,7 @@ use Rattle.spie_base.specs.declared.Rules.{Rules}
 use Rattle.page_shelf.specs.Shelves.{Contents, IsSame}
 use Rattle.router_account.specs.Ledger.{Ledger, Unfinished, nothing_unfinished, behind_barrier}
 use Rattle.router_account.specs.Records.{Holds, HoldsBits, ArePageBits, AreTrue, AllFailed}
-use Rattle.router_account.specs.Shelves.{ShelfView}
+use Rattle.router_account.specs.Shelves.{ShelfView, view_of}
 use Rattle.router_account.specs.Sights.{Reading, failures, no_reading}
 use Rattle.data_agent.specs.declared.Barrier.{Barrier}
 use Rattle.data_agent.specs.Calls.{Meaning, MayPass, MayAsk, IsPassed, IsSeen, Told, split_of, left_of, marks_of}
@@ -16,10 +16,6 @@ use Rattle.trace_history.specs.Routers.{RouterRules, sum_over}
 -- what each agent stands for
 abbrev pub Standing : Type 0 → Type 1
 Standing A = A → Meaning
-
--- a shelf as it is seen at one time
-abbrev pub view_of : {H : Type 0} → (H → Bool) → (H → Contents) → (H → ℕ) → H → ShelfView
-view_of tells contents faults shelf = record { tells = tells shelf; contents = contents shelf; faults = faults shelf }
 
 -- each agent stands for the ledger of its router, with what is unfinished there
 pub record AllStand {A : Type 0} (stands : Standing A) (rules : RouterRules) (ls : ℕ → Ledger) (us : ℕ → Unfinished) (agents : List A) : Type 0 where

@@ -6,3 +6,4 @@ pub mod Printing
 pub mod Segments
 pub mod Sights
 pub mod Standing
+pub mod Yards

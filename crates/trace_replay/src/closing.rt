@@ -5,23 +5,26 @@ ghost use Rattle.std.specs.List.{All};
 ghost use Rattle.trace_format.specs.declared.What.TheVariants.{Tick, Query, End};
 ghost use Rattle.trace_replay.specs.Segments.{is_barrier_line};
 ghost use Rattle.data_agent.specs.Standing.{StandsFor};
-ghost use Rattle.trace_replay.specs.Agents.{view_of};
+ghost use Rattle.router_account.specs.Shelves.{view_of};
 ghost use Rattle.trace_replay.specs.Barriers.{PrintsPending, Prints, tick_items, end_items};
 ghost use Rattle.trace_replay.specs.Printing.{IsAnswerNamed};
 ghost use Rattle.trace_replay.specs.Standing.{IsNext, Closes};
+ghost use Rattle.trace_replay.specs.Yards.{AreBeside};
 
-use crate::agents::{pass_all, see_all};
+use crate::agents::{pass_all, prepare_all, see_all};
 use crate::barriers::{push_answers, push_closed, push_left};
 use crate::lines::sig_of;
 use crate::queries::print_query;
 use crate::state::State;
 use data_agent::{Agent, Barrier};
+use page_gate::Plane;
 use page_shelf::Shelf;
 use report_text::{Item, push_item};
-use reverse_flood::{Node, flood};
+use reverse_flood::Node;
 use spie_base::{NoMemory, RouterId};
 use std::alloc::Global;
 use trace_format::{Line, Trace, What};
+use traceback_manager::trace as trace_flood;
 
 // The answers since the last barrier are printed, and the next segment begins behind the barrier's line.
 fn print_answers(
@@ -92,16 +95,19 @@ fn tick<H: Shelf>(
     line: &Line,
     time: u64,
     shelf: &mut H,
+    planes: &[Plane],
     agents: &mut [Agent],
     state: &mut State,
 ) -> Result<(), NoMemory>
     requires is { line.now.what ≡ Tick time }
+    requires beside { AreBeside planes.now agents.old }
     requires ready { IsNext StandsFor trace.now line.now agents.old state.old
         (view_of H.tells H.contents H.faults shelf.old) }
-    ensures { OnOk result (Closes StandsFor trace.now line.now agents.old agents.new state.old state.new
+    ensures beside { OnOk result (AreBeside planes.now agents.new) }
+    ensures closes { OnOk result (Closes StandsFor trace.now line.now agents.old agents.new state.old state.new
         (view_of H.tells H.contents H.faults shelf.old) (view_of H.tells H.contents H.faults shelf.new)) }
 {
-    let barriers = pass_all(alloc, shelf, time, true, agents)?;
+    let barriers = pass_all(alloc, shelf, time, true, planes, agents)?;
     print_answers(alloc, trace, &barriers, state)?;
     print_tick(trace, line.number, time, &barriers, state)?;
     Ok(())
@@ -112,16 +118,19 @@ fn end<H: Shelf>(
     trace: &Trace,
     line: &Line,
     shelf: &mut H,
+    planes: &[Plane],
     agents: &mut [Agent],
     state: &mut State,
 ) -> Result<(), NoMemory>
     requires is { line.now.what ≡ End }
+    requires beside { AreBeside planes.now agents.old }
     requires ready { IsNext StandsFor trace.now line.now agents.old state.old
         (view_of H.tells H.contents H.faults shelf.old) }
-    ensures { OnOk result (Closes StandsFor trace.now line.now agents.old agents.new state.old state.new
+    ensures beside { OnOk result (AreBeside planes.now agents.new) }
+    ensures closes { OnOk result (Closes StandsFor trace.now line.now agents.old agents.new state.old state.new
         (view_of H.tells H.contents H.faults shelf.old) (view_of H.tells H.contents H.faults shelf.new)) }
 {
-    let barriers = pass_all(alloc, shelf, state.clock, false, agents)?;
+    let barriers = pass_all(alloc, shelf, state.clock, false, planes, agents)?;
     print_answers(alloc, trace, &barriers, state)?;
     print_end(trace, line.number, &barriers, state)?;
     Ok(())
@@ -135,20 +144,24 @@ fn query<H: Shelf>(
     packet: u32,
     time: u64,
     shelf: &mut H,
+    planes: &[Plane],
     agents: &mut [Agent],
     state: &mut State,
 ) -> Result<(), NoMemory>
     requires is { line.now.what ≡ Query router packet time }
     requires links { IsSoundLayout trace.now.topology }
+    requires beside { AreBeside planes.now agents.old }
     requires ready { IsNext StandsFor trace.now line.now agents.old state.old
         (view_of H.tells H.contents H.faults shelf.old) }
-    ensures { OnOk result (Closes StandsFor trace.now line.now agents.old agents.new state.old state.new
+    ensures beside { OnOk result (AreBeside planes.now agents.new) }
+    ensures closes { OnOk result (Closes StandsFor trace.now line.now agents.old agents.new state.old state.new
         (view_of H.tells H.contents H.faults shelf.old) (view_of H.tells H.contents H.faults shelf.new)) }
 {
     let sig = sig_of(trace, packet);
-    let barriers = pass_all(alloc, shelf, state.clock, false, agents)?;
+    let barriers = pass_all(alloc, shelf, state.clock, false, planes, agents)?;
+    prepare_all(alloc, planes, agents)?;
     let sights = see_all(alloc, shelf, time, agents)?;
-    let graph = flood(alloc, &trace.topology, &sights, &Node { router, sig })?;
+    let graph = trace_flood(alloc, &trace.topology, &sights, &Node { router, sig })?;
     print_answers(alloc, trace, &barriers, state)?;
     print_query(alloc, trace, line.number, &barriers, &sights, &graph, state)?;
     Ok(())
@@ -160,26 +173,29 @@ pub fn line_closing<H: Shelf>(
     trace: &Trace,
     line: &Line,
     shelf: &mut H,
+    planes: &[Plane],
     agents: &mut [Agent],
     state: &mut State,
 ) -> Result<(), NoMemory>
     requires barrier { is_barrier_line line.now.what ≡ true }
     requires links { IsSoundLayout trace.now.topology }
+    requires beside { AreBeside planes.now agents.old }
     requires ready { IsNext StandsFor trace.now line.now agents.old state.old
         (view_of H.tells H.contents H.faults shelf.old) }
-    ensures { OnOk result (Closes StandsFor trace.now line.now agents.old agents.new state.old state.new
+    ensures beside { OnOk result (AreBeside planes.now agents.new) }
+    ensures closes { OnOk result (Closes StandsFor trace.now line.now agents.old agents.new state.old state.new
         (view_of H.tells H.contents H.faults shelf.old) (view_of H.tells H.contents H.faults shelf.new)) }
 {
     match line.what {
-        What::Tick { time } => tick(alloc, trace, line, time, shelf, agents, state),
+        What::Tick { time } => tick(alloc, trace, line, time, shelf, planes, agents, state),
         What::Query {
             router,
             packet,
             time,
         } => query(
-            alloc, trace, line, router, packet, time, shelf, agents, state,
+            alloc, trace, line, router, packet, time, shelf, planes, agents, state,
         ),
-        What::End => end(alloc, trace, line, shelf, agents, state),
+        What::End => end(alloc, trace, line, shelf, planes, agents, state),
         _ => unreachable!(),
     }
 }

@@ -1,15 +1,16 @@
 // The lines of a segment, one after another.
 ghost use Rattle.std.specs.Prelude.{◌≡◌, ◌<◌, true, false, OnOk, length, slice_get, Some};
 ghost use Rattle.trace_format.specs.declared.What.TheVariants.{Fwd, Xf, Rotate, Archive, Watch as WatchLine};
-ghost use Rattle.router_account.specs.Shelves.{ShelfView};
+ghost use Rattle.router_account.specs.Shelves.{ShelfView, view_of};
 ghost use Rattle.data_agent.specs.Standing.{StandsFor};
-ghost use Rattle.trace_replay.specs.Agents.{view_of};
 ghost use Rattle.trace_replay.specs.Segments.{is_barrier_line};
 ghost use Rattle.trace_replay.specs.Standing.{IsNext, Does, Adds};
+ghost use Rattle.trace_replay.specs.Yards.{AreBeside};
 
 use crate::state::{Answer, State};
 use data_agent::Agent;
 use packet_signature::{Kind, row};
+use page_gate::Plane;
 use page_shelf::Shelf;
 use spie_base::{NoMemory, RouterId, Sig};
 use std::alloc::Global;
@@ -35,16 +36,20 @@ fn forward(
     line: &Line,
     router: RouterId,
     packet: u32,
+    planes: &[Plane],
     agents: &mut [Agent],
     state: &mut State,
 ) -> Result<(), NoMemory>
     requires is { line.now.what ≡ Fwd router packet }
+    requires beside { AreBeside planes.now agents.old }
     requires ready { (now : ShelfView) × IsNext StandsFor trace.now line.now agents.old state.old now }
-    ensures { OnOk result ((now : ShelfView) →
+    ensures beside { OnOk result (AreBeside planes.now agents.new) }
+    ensures does { OnOk result ((now : ShelfView) →
         Does StandsFor trace.now line.now agents.old agents.new state.old state.new now now) }
 {
     let sig = sig_of(trace, packet);
-    let page = agents[router.number as usize].forward(&sig);
+    let at = router.number as usize;
+    let page = agents[at].forward(&planes[at], &sig);
     answered(state, Answer::Entered(page))?;
     Ok(())
 }
@@ -58,18 +63,22 @@ fn transform(
     kind: Kind,
     old: u32,
     new: u32,
+    planes: &[Plane],
     agents: &mut [Agent],
     state: &mut State,
 ) -> Result<(), NoMemory>
     requires is { line.now.what ≡ Xf router kind old new }
+    requires beside { AreBeside planes.now agents.old }
     requires ready { (now : ShelfView) × IsNext StandsFor trace.now line.now agents.old state.old now }
-    ensures { OnOk result ((now : ShelfView) →
+    ensures beside { OnOk result (AreBeside planes.now agents.new) }
+    ensures does { OnOk result ((now : ShelfView) →
         Does StandsFor trace.now line.now agents.old agents.new state.old state.new now now) }
 {
     let before = sig_of(trace, old);
     let sig = sig_of(trace, new);
-    let agent = &mut agents[router.number as usize];
-    let page = agent.forward(&sig);
+    let at = router.number as usize;
+    let agent = &mut agents[at];
+    let page = agent.forward(&planes[at], &sig);
     agent.transform(alloc, page, &row(kind, &before, &sig))?;
     answered(state, Answer::Entered(page))?;
     Ok(())
@@ -80,15 +89,19 @@ fn rotate(
     trace: &Trace,
     line: &Line,
     router: RouterId,
+    planes: &[Plane],
     agents: &mut [Agent],
     state: &mut State,
 ) -> Result<(), NoMemory>
     requires is { line.now.what ≡ Rotate router }
+    requires beside { AreBeside planes.now agents.old }
     requires ready { (now : ShelfView) × IsNext StandsFor trace.now line.now agents.old state.old now }
-    ensures { OnOk result ((now : ShelfView) →
+    ensures beside { OnOk result (AreBeside planes.now agents.new) }
+    ensures does { OnOk result ((now : ShelfView) →
         Does StandsFor trace.now line.now agents.old agents.new state.old state.new now now) }
 {
-    let page = agents[router.number as usize].rotate_alone(alloc, state.clock)?;
+    let at = router.number as usize;
+    let page = agents[at].rotate_alone(alloc, &planes[at], state.clock)?;
     answered(state, Answer::Opened(page))?;
     Ok(())
 }
@@ -98,16 +111,20 @@ fn watch(
     line: &Line,
     router: RouterId,
     packet: u32,
-    agents: &[Agent],
+    planes: &[Plane],
+    agents: &mut [Agent],
     state: &mut State,
 ) -> Result<(), NoMemory>
     requires is { line.now.what ≡ WatchLine router packet }
-    requires ready { (now : ShelfView) × IsNext StandsFor trace.now line.now agents.now state.old now }
-    ensures { OnOk result ((now : ShelfView) →
-        Does StandsFor trace.now line.now agents.now agents.now state.old state.new now now) }
+    requires beside { AreBeside planes.now agents.old }
+    requires ready { (now : ShelfView) × IsNext StandsFor trace.now line.now agents.old state.old now }
+    ensures beside { OnOk result (AreBeside planes.now agents.new) }
+    ensures does { OnOk result ((now : ShelfView) →
+        Does StandsFor trace.now line.now agents.old agents.new state.old state.new now now) }
 {
     let sig = sig_of(trace, packet);
-    let seen = agents[router.number as usize].watch(state.clock, &sig);
+    let at = router.number as usize;
+    let seen = agents[at].watch(&planes[at], state.clock, &sig);
     answered(state, Answer::Watched(seen))?;
     Ok(())
 }
@@ -119,16 +136,20 @@ fn archive<H: Shelf>(
     line: &Line,
     router: RouterId,
     shelf: &mut H,
+    planes: &[Plane],
     agents: &mut [Agent],
     state: &mut State,
 ) -> Result<(), NoMemory>
     requires is { line.now.what ≡ Archive router }
+    requires beside { AreBeside planes.now agents.old }
     requires ready { IsNext StandsFor trace.now line.now agents.old state.old
         (view_of H.tells H.contents H.faults shelf.old) }
-    ensures { OnOk result (Does StandsFor trace.now line.now agents.old agents.new state.old state.new
+    ensures beside { OnOk result (AreBeside planes.now agents.new) }
+    ensures does { OnOk result (Does StandsFor trace.now line.now agents.old agents.new state.old state.new
         (view_of H.tells H.contents H.faults shelf.old) (view_of H.tells H.contents H.faults shelf.new)) }
 {
-    agents[router.number as usize].archive(alloc, shelf)?;
+    let at = router.number as usize;
+    agents[at].archive(alloc, &planes[at], shelf)?;
     answered(state, Answer::Archived(router))?;
     Ok(())
 }
@@ -139,26 +160,33 @@ pub fn line_within<H: Shelf>(
     trace: &Trace,
     line: &Line,
     shelf: &mut H,
+    planes: &[Plane],
     agents: &mut [Agent],
     state: &mut State,
 ) -> Result<(), NoMemory>
     requires inner { is_barrier_line line.now.what ≡ false }
+    requires beside { AreBeside planes.now agents.old }
     requires ready { IsNext StandsFor trace.now line.now agents.old state.old
         (view_of H.tells H.contents H.faults shelf.old) }
-    ensures { OnOk result (Does StandsFor trace.now line.now agents.old agents.new state.old state.new
+    ensures beside { OnOk result (AreBeside planes.now agents.new) }
+    ensures does { OnOk result (Does StandsFor trace.now line.now agents.old agents.new state.old state.new
         (view_of H.tells H.contents H.faults shelf.old) (view_of H.tells H.contents H.faults shelf.new)) }
 {
     match line.what {
-        What::Fwd { router, packet } => forward(trace, line, router, packet, agents, state),
+        What::Fwd { router, packet } => forward(trace, line, router, packet, planes, agents, state),
         What::Xf {
             router,
             kind,
             old,
             new,
-        } => transform(alloc, trace, line, router, kind, old, new, agents, state),
-        What::Rotate { router } => rotate(alloc, trace, line, router, agents, state),
-        What::Archive { router } => archive(alloc, trace, line, router, shelf, agents, state),
-        What::Watch { router, packet } => watch(trace, line, router, packet, agents, state),
+        } => transform(
+            alloc, trace, line, router, kind, old, new, planes, agents, state,
+        ),
+        What::Rotate { router } => rotate(alloc, trace, line, router, planes, agents, state),
+        What::Archive { router } => archive(
+            alloc, trace, line, router, shelf, planes, agents, state,
+        ),
+        What::Watch { router, packet } => watch(trace, line, router, packet, planes, agents, state),
         _ => unreachable!(),
     }
 }

@@ -6,9 +6,10 @@ ghost use Rattle.trace_replay.specs.Agents.{views_of};
 ghost use Rattle.trace_replay.specs.Segments.{no_line};
 ghost use Rattle.trace_replay.specs.Sights.{query_time, time_at, HasQuery, AreSights};
 
-use crate::agents::{pass_all, see_all};
+use crate::agents::{open_all, pass_all, prepare_all, see_all};
 use crate::replay::replay_lines;
-use data_agent::{Agent, Sight};
+use crate::yard::Yard;
+use data_agent::Sight;
 use page_shelf::Shelf;
 use spie_base::NoMemory;
 use std::alloc::Global;
@@ -59,8 +60,8 @@ fn find_query(lines: &[Line], number: u64) -> (usize, u64)
 }
 
 /// Replays a trace with one worker up to the query at this line, and says what the query sees of each router, in their
-/// order. The agents are those behind the query's barrier: sights borrow their pages, so the caller keeps them, and what
-/// was there before is dropped. The shelf is read for the queries before this one too.
+/// order. Leaves in the yard the routers as they are behind the query's barrier: sights borrow their pages, so the caller
+/// keeps it, and what was there before is dropped. The shelf is read for the queries before this one too.
 ///
 /// Costs what `replay_alone` costs up to that line, without the flood and the lines of this query.
 pub fn sights_alone<'a, H: Shelf>(
@@ -68,7 +69,7 @@ pub fn sights_alone<'a, H: Shelf>(
     trace: &Trace,
     shelf: &mut H,
     line: u64,
-    agents: &'a mut Vec<Agent>,
+    yard: &'a mut Yard,
 ) -> Result<Vec<Sight<'a>>, NoMemory>
     requires sound { IsSound trace.now }
     requires query { HasQuery trace.now.lines line }
@@ -77,7 +78,11 @@ pub fn sights_alone<'a, H: Shelf>(
 {
     let lines = trace.lines.items();
     let (place, time) = find_query(lines, line);
-    let state = replay_lines(alloc, trace, &lines[..place], shelf, agents)?;
-    let _barriers = pass_all(alloc, shelf, state.clock, false, agents)?;
-    see_all(alloc, shelf, time, agents)
+    let (planes, mut agents) = open_all(alloc, &trace.rules, trace.topology.routers())?;
+    let state = replay_lines(alloc, trace, &lines[..place], shelf, &planes, &mut agents)?;
+    let _barriers = pass_all(alloc, shelf, state.clock, false, &planes, &mut agents)?;
+    prepare_all(alloc, &planes, &mut agents)?;
+    yard.planes = planes;
+    yard.agents = agents;
+    see_all(alloc, shelf, time, &yard.agents)
 }

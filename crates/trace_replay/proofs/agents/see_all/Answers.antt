@@ -1,16 +1,21 @@
 use Rattle.std.proofs.Common.{sym, subst, ◌+◌, List}
+use Rattle.data_agent.specs.Planes.{IsPrepared}
 use Rattle.data_agent.specs.Standing.{StandsFor}
 use Rattle.data_agent.specs.declared.Agent.{Agent}
 use Rattle.data_agent.specs.declared.Sight.{Sight}
 use Rattle.data_agent.specs.Seeing.{shown_by, told_by}
-use Rattle.trace_replay.specs.Agents.{IsPast, SeesUpTo, view_of}
+use Rattle.router_account.specs.Shelves.{view_of}
+use Rattle.trace_replay.specs.Agents.{IsPast, SeesUpTo}
 use Rattle.trace_replay.proofs.Seeing.{sees_more}
 use Rattle.trace_replay.proofs.agents.see_all.Goals as goal
 
 pub sight-requires : goal.sight-requires
 sight-requires g c =
     let P = λ (y : Agent). IsPast StandsFor c.args.time y in
-    record { past = subst P (sym c.agent-item.is) (c.requires c.loop-agent.agent-index c.agent-item.result c.loop-agent-test.true) }
+    record {
+      prepared = subst IsPrepared (sym c.agent-item.is) (c.requires.prepared c.loop-agent.agent-index c.agent-item.result c.loop-agent-test.true);
+      past = subst P (sym c.agent-item.is) (c.requires.past c.loop-agent.agent-index c.agent-item.result c.loop-agent-test.true);
+    }
 
 pub loop-agent-preserved : goal.loop-agent-preserved
 loop-agent-preserved g c =

@@ -1,6 +1,7 @@
 use Rattle.data_agent.specs.Standing.{StandsFor}
 use Rattle.data_agent.specs.Seeing.{shown_by, told_by}
-use Rattle.trace_replay.specs.Agents.{SeesUpTo, view_of}
+use Rattle.router_account.specs.Shelves.{view_of}
+use Rattle.trace_replay.specs.Agents.{SeesUpTo}
 use Rattle.trace_replay.proofs.agents.see_all.Given as goal
 
 abbrev pub invariant-loop-agent : goal.invariant-loop-agent

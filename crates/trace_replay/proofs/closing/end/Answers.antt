@@ -1,13 +1,13 @@
 use Rattle.std.proofs.Common.{ℕ, refl, subst, List, arith}
 use Rattle.data_agent.specs.declared.Barrier.{Barrier}
 use Rattle.data_agent.specs.Standing.{StandsFor}
-use Rattle.trace_replay.specs.Agents.{view_of}
+use Rattle.router_account.specs.Shelves.{view_of}
 use Rattle.trace_replay.specs.Barriers.{PrintsPending, Prints, end_items}
 use Rattle.trace_replay.proofs.Closes.{agents_ready, answers_named, answers_there, end_closes}
 use Rattle.trace_replay.proofs.closing.end.Goals as goal
 
-pub pass_all-requires : goal.pass_all-requires
-pass_all-requires g c =
+pub pass_all-requires-clause-ready : goal.pass_all-requires-clause-ready
+pass_all-requires-clause-ready g c =
     let view = view_of g.H.Shelf.tells g.H.Shelf.contents g.H.Shelf.faults in
     agents_ready StandsFor c.args.trace.now c.args.line.now c.args.agents.now c.args.state.now (view c.args.shelf.now) c.requires.ready c.args.state.now.clock _ (omega arith) c.requires.ready.3.clock_fits
 
@@ -21,8 +21,8 @@ print_answers-requires-clause-there g c =
     let view = view_of g.H.Shelf.tells g.H.Shelf.contents g.H.Shelf.faults in
     answers_there StandsFor c.args.trace.now c.args.line.now c.args.agents.now c.args.state.now (view c.args.shelf.now) c.requires.ready
 
-pub returns : goal.returns
-returns g c = λ start history seg old fits.
+pub returns-clause-closes : goal.returns-clause-closes
+returns-clause-closes g c = λ start history seg old fits.
     let view = view_of g.H.Shelf.tells g.H.Shelf.contents g.H.Shelf.faults in
     let t = c.args.trace.now in
     let s = c.args.state.now in
@@ -33,5 +33,5 @@ returns g c = λ start history seg old fits.
     let Q : ℕ → Type 0 = λ clock. Prints t (end_items t c.in_ok-barriers.barriers.items c.args.line.now.number) clock mid new in
     let pends = subst P c.deref.ensures.value c.in_ok-print_answers.ensures in
     end_closes StandsFor t start history seg c.args.agents.now c.pass_all.new.agents s (view c.args.shelf.now) (view c.pass_all.new.shelf) old
-    s.clock _ c.in_ok-barriers.barriers.items c.in_ok-barriers.ensures refl refl c.args.line.now c.requires.is mid new
+    s.clock _ c.in_ok-barriers.barriers.items c.in_ok-barriers.ensures.passed refl refl c.args.line.now c.requires.is mid new
     pends (subst Q pends.clock (subst R c.deref-2.ensures.value c.in_ok-print_end.ensures))

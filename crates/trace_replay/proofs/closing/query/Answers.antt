@@ -4,25 +4,34 @@ use Rattle.data_agent.specs.declared.Barrier.{Barrier}
 use Rattle.data_agent.specs.Standing.{StandsFor}
 use Rattle.data_agent.specs.declared.Sight.{Sight}
 use Rattle.data_agent.specs.Seeing.{shown_by, told_by}
-use Rattle.trace_replay.specs.Agents.{view_of}
+use Rattle.router_account.specs.Shelves.{view_of}
 use Rattle.trace_replay.specs.Asking.{PrintsQuery, query_items}
 use Rattle.trace_replay.specs.Barriers.{PrintsPending}
 use Rattle.trace_replay.proofs.Asked.{agents_past, router_exists, query_closes}
 use Rattle.trace_replay.proofs.Closes.{agents_ready, answers_named, answers_there, answers_there}
 use Rattle.trace_replay.proofs.Named.{graph_named}
+use Rattle.trace_replay.proofs.Preparing.{passes_kept, past_standing}
 use Rattle.trace_replay.proofs.closing.query.Goals as goal
 
-pub pass_all-requires : goal.pass_all-requires
-pass_all-requires g c =
+pub pass_all-requires-clause-ready : goal.pass_all-requires-clause-ready
+pass_all-requires-clause-ready g c =
     let view = view_of g.H.Shelf.tells g.H.Shelf.contents g.H.Shelf.faults in
     agents_ready StandsFor c.args.trace.now c.args.line.now c.args.agents.now c.args.state.now (view c.args.shelf.now) c.requires.ready c.args.state.now.clock _ (omega arith) c.requires.ready.3.clock_fits
 
-pub see_all-requires : goal.see_all-requires
-see_all-requires g c =
+pub see_all-requires-clause-past : goal.see_all-requires-clause-past
+see_all-requires-clause-past g c =
     let view = view_of g.H.Shelf.tells g.H.Shelf.contents g.H.Shelf.faults in
-    agents_past StandsFor c.args.trace.now c.args.line.now c.args.agents.now c.pass_all.new.agents c.args.state.now (view c.args.shelf.now) (view c.pass_all.new.shelf) c.requires.ready
-    c.in_ok-barriers.barriers.items c.in_ok-barriers.ensures c.args.time
+    agents_past StandsFor c.args.trace.now c.args.line.now c.args.agents.now c.prepare_all.new.agents c.args.state.now (view c.args.shelf.now) (view c.pass_all.new.shelf) c.requires.ready
+    c.in_ok-barriers.barriers.items (passes_kept StandsFor c.args.state.now.clock _ c.args.agents.now c.pass_all.new.agents c.prepare_all.new.agents c.in_ok-barriers.barriers.items _ _ c.in_ok-barriers.ensures.passed c.in_ok-prepare_all.ensures.same) c.args.time
     (router_exists StandsFor c.args.trace.now c.args.line.now c.args.agents.now c.args.state.now (view c.args.shelf.now) c.args.router c.args.packet c.args.time c.requires.is c.requires.ready).1
+
+pub prepare_all-requires-clause-stands : goal.prepare_all-requires-clause-stands
+prepare_all-requires-clause-stands g c =
+    let view = view_of g.H.Shelf.tells g.H.Shelf.contents g.H.Shelf.faults in
+    past_standing StandsFor c.args.time c.pass_all.new.agents
+    (agents_past StandsFor c.args.trace.now c.args.line.now c.args.agents.now c.pass_all.new.agents c.args.state.now (view c.args.shelf.now) (view c.pass_all.new.shelf) c.requires.ready
+    c.in_ok-barriers.barriers.items c.in_ok-barriers.ensures.passed c.args.time
+    (router_exists StandsFor c.args.trace.now c.args.line.now c.args.agents.now c.args.state.now (view c.args.shelf.now) c.args.router c.args.packet c.args.time c.requires.is c.requires.ready).1)
 
 pub print_answers-requires-clause-named : goal.print_answers-requires-clause-named
 print_answers-requires-clause-named g c =
@@ -41,8 +50,8 @@ print_answers-requires-clause-there g c =
     let view = view_of g.H.Shelf.tells g.H.Shelf.contents g.H.Shelf.faults in
     answers_there StandsFor c.args.trace.now c.args.line.now c.args.agents.now c.args.state.now (view c.args.shelf.now) c.requires.ready
 
-pub returns : goal.returns
-returns g c = λ start history seg old fits.
+pub returns-clause-closes : goal.returns-clause-closes
+returns-clause-closes g c = λ start history seg old fits.
     let view = view_of g.H.Shelf.tells g.H.Shelf.contents g.H.Shelf.faults in
     let shown = shown_by in
     let told = told_by in
@@ -58,8 +67,8 @@ returns g c = λ start history seg old fits.
     let P : List Barrier → Type 0 = λ xs. PrintsPending t xs s mid in
     let Q1 = λ (xs : List Barrier). PrintsQuery t (query_items told (length t.topology.names) xs c.deref-4.result.now line graph) graph mid new in
     let Q2 = λ (xs : List Sight). PrintsQuery t (query_items told (length t.topology.names) bs xs line graph) graph mid new in
-    query_closes StandsFor shown told t start history seg c.args.agents.now c.pass_all.new.agents s (view c.args.shelf.now) (view c.pass_all.new.shelf) (view c.see_all.new.shelf) old
-    bs c.in_ok-barriers.ensures c.args.time ss c.in_ok-sights.ensures c.args.line.now c.args.router c.args.packet c.sig_of-sig.result c.requires.is c.sig_of-sig.ensures
+    query_closes StandsFor shown told t start history seg c.args.agents.now c.prepare_all.new.agents s (view c.args.shelf.now) (view c.pass_all.new.shelf) (view c.see_all.new.shelf) old
+    bs (passes_kept StandsFor s.clock _ c.args.agents.now c.pass_all.new.agents c.prepare_all.new.agents bs _ _ c.in_ok-barriers.ensures.passed c.in_ok-prepare_all.ensures.same) c.args.time ss c.in_ok-sights.ensures c.args.line.now c.args.router c.args.packet c.sig_of-sig.result c.requires.is c.sig_of-sig.ensures
     (router_exists StandsFor t c.args.line.now c.args.agents.now s (view c.args.shelf.now) c.args.router c.args.packet c.args.time c.requires.is c.requires.ready).0
     (λ a b h. (c.requires.links.ends a b h).1) graph
     (subst F c.deref.ensures.value c.in_ok-graph.ensures.graph) mid new

@@ -3,13 +3,13 @@ use Rattle.trace_format.specs.declared.What.{What}
 use Rattle.trace_format.specs.Sound.{FitsClock, HasTime}
 use Rattle.data_agent.specs.declared.Barrier.{Barrier}
 use Rattle.data_agent.specs.Standing.{StandsFor}
-use Rattle.trace_replay.specs.Agents.{view_of}
+use Rattle.router_account.specs.Shelves.{view_of}
 use Rattle.trace_replay.specs.Barriers.{PrintsPending, Prints, tick_items}
 use Rattle.trace_replay.proofs.Closes.{agents_ready, answers_named, answers_there, tick_closes}
 use Rattle.trace_replay.proofs.closing.tick.Goals as goal
 
-pub pass_all-requires : goal.pass_all-requires
-pass_all-requires g c =
+pub pass_all-requires-clause-ready : goal.pass_all-requires-clause-ready
+pass_all-requires-clause-ready g c =
     let view = view_of g.H.Shelf.tells g.H.Shelf.contents g.H.Shelf.faults in
     let P : What → Type 0 = λ w. FitsClock c.args.state.now.clock w in
     let up : c.args.state.now.clock < c.args.time = subst P c.requires.is c.requires.ready.4.timed in
@@ -25,8 +25,8 @@ print_answers-requires-clause-there g c =
     let view = view_of g.H.Shelf.tells g.H.Shelf.contents g.H.Shelf.faults in
     answers_there StandsFor c.args.trace.now c.args.line.now c.args.agents.now c.args.state.now (view c.args.shelf.now) c.requires.ready
 
-pub returns : goal.returns
-returns g c = λ start history seg old fits.
+pub returns-clause-closes : goal.returns-clause-closes
+returns-clause-closes g c = λ start history seg old fits.
     let view = view_of g.H.Shelf.tells g.H.Shelf.contents g.H.Shelf.faults in
     let t = c.args.trace.now in
     let s = c.args.state.now in
@@ -35,5 +35,5 @@ returns g c = λ start history seg old fits.
     let P : List Barrier → Type 0 = λ bs. PrintsPending t bs s mid in
     let Q : List Barrier → Type 0 = λ bs. Prints t (tick_items t bs c.args.line.now.number c.args.time) c.args.time mid new in
     tick_closes StandsFor t start history seg c.args.agents.now c.pass_all.new.agents s (view c.args.shelf.now) (view c.pass_all.new.shelf) old
-    c.args.time _ c.in_ok-barriers.barriers.items c.in_ok-barriers.ensures refl c.args.line.now c.requires.is fits.timed fits.time mid new
+    c.args.time _ c.in_ok-barriers.barriers.items c.in_ok-barriers.ensures.passed refl c.args.line.now c.requires.is fits.timed fits.time mid new
     (subst P c.deref.ensures.value c.in_ok-print_answers.ensures) (subst Q c.deref-2.ensures.value c.in_ok-print_tick.ensures)

@@ -1,7 +1,7 @@
 use Rattle.std.proofs.Common.{sym, subst}
 use Rattle.trace_format.specs.declared.Line.{Line}
 use Rattle.data_agent.specs.Standing.{StandsFor}
-use Rattle.trace_replay.specs.Agents.{view_of}
+use Rattle.router_account.specs.Shelves.{view_of}
 use Rattle.trace_replay.specs.Segments.{no_line}
 use Rattle.trace_replay.specs.Standing.{IsNext}
 use Rattle.trace_replay.proofs.Doing.{ready_at}
@@ -16,12 +16,15 @@ step-requires-clause-ready g c =
     let P : Line → Type 0 = λ x. IsNext StandsFor t x c.loop-line.agents c.loop-line.state (view c.loop-line.shelf) in
     subst P (sym (first_at t.lines c.args.lines.now c.requires.lines i no_line c.loop-line-test.true))
     (ready_at StandsFor t (view c.args.shelf.now) c.requires.sound i no_line c.loop-line.agents c.loop-line.state (view c.loop-line.shelf)
-    (first_within t.lines c.args.lines.now c.requires.lines i c.loop-line-test.true) c.loop-line.invariant)
+    (first_within t.lines c.args.lines.now c.requires.lines i c.loop-line-test.true) c.loop-line.invariant.done)
 
 pub loop-line-preserved : goal.loop-line-preserved
 loop-line-preserved g c =
     let view = view_of g.H.Shelf.tells g.H.Shelf.contents g.H.Shelf.faults in
     let i = c.loop-line.line-index in
     let t = c.args.trace.now in
-    c.in_ok-step.ensures (view c.args.shelf.now) i no_line c.requires.sound (first_within t.lines c.args.lines.now c.requires.lines i c.loop-line-test.true)
-    (first_at t.lines c.args.lines.now c.requires.lines i no_line c.loop-line-test.true) c.loop-line.invariant
+    record {
+      beside = c.in_ok-step.ensures.beside;
+      done = c.in_ok-step.ensures.proceeds (view c.args.shelf.now) i no_line c.requires.sound (first_within t.lines c.args.lines.now c.requires.lines i c.loop-line-test.true)
+          (first_at t.lines c.args.lines.now c.requires.lines i no_line c.loop-line-test.true) c.loop-line.invariant.done;
+    }

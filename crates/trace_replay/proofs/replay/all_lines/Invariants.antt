@@ -1,9 +1,13 @@
 use Rattle.data_agent.specs.Standing.{StandsFor}
-use Rattle.trace_replay.specs.Agents.{view_of}
+use Rattle.router_account.specs.Shelves.{view_of}
 use Rattle.trace_replay.specs.Loop.{HasDone}
+use Rattle.trace_replay.specs.Yards.{AreBeside}
 use Rattle.trace_replay.proofs.replay.all_lines.Given as goal
 
 abbrev pub invariant-loop-line : goal.invariant-loop-line
 invariant-loop-line g l =
     let view = view_of g.H.Shelf.tells g.H.Shelf.contents g.H.Shelf.faults in
-    HasDone StandsFor l.trace (view l.fn.shelf) l.line-index l.agents l.state (view l.shelf)
+    record {
+      beside : AreBeside l.planes l.agents;
+      done : HasDone StandsFor l.trace (view l.fn.shelf) l.line-index l.agents l.state (view l.shelf);
+    }

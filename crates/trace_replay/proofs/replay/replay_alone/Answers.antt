@@ -1,16 +1,28 @@
-use Rattle.std.proofs.Common.{List, length, subst}
-use Rattle.trace_format.specs.declared.Line.{Line}
+use Rattle.std.proofs.Common.{List, length, subst, sym, arith}
+use Rattle.page_gate.specs.Held.{PlaneId}
 use Rattle.data_agent.specs.Standing.{StandsFor}
-use Rattle.trace_replay.specs.Agents.{view_of}
+use Rattle.data_agent.specs.declared.Agent.{Agent}
+use Rattle.trace_format.specs.declared.Line.{Line}
+use Rattle.trace_history.specs.Workers.{IsReplayedBy}
+use Rattle.trace_replay.specs.Agents.{views_of}
+use Rattle.router_account.specs.Shelves.{view_of}
 use Rattle.trace_replay.specs.Loop.{HasDone}
 use Rattle.trace_replay.specs.Segments.{no_line}
+use Rattle.trace_replay.specs.Yards.{AreBeside, yard_views}
 use Rattle.trace_replay.proofs.Begun.{replayed}
+use Rattle.trace_replay.proofs.Sighted.{written_back}
 use Rattle.trace_replay.proofs.replay.replay_alone.Goals as goal
 
-pub returns : goal.returns
-returns g c =
+pub returns-clause-replayed : goal.returns-clause-replayed
+returns-clause-replayed g c =
     let view = view_of g.H.Shelf.tells g.H.Shelf.contents g.H.Shelf.faults in
     let t = c.args.trace.now in
-    let D = λ (xs : List Line). HasDone StandsFor t (view c.args.shelf.now) (length xs) c.replay_lines.new.agents.items c.in_ok-state.state (view c.replay_lines.new.shelf) in
-    replayed StandsFor t (view c.args.shelf.now) (view c.replay_lines.new.shelf) no_line c.replay_lines.new.agents.items c.in_ok-state.state c.of.result c.requires
-    (subst D c.items.ensures c.in_ok-state.ensures) c.of.ensures
+    let planes = c.in_ok-planes.planes.items in
+    let agents = c.replay_lines.new.agents in
+    let D = λ (xs : List Line). HasDone StandsFor t (view c.args.shelf.now) (length xs) agents c.in_ok-state.state (view c.replay_lines.new.shelf) in
+    let B = λ (ps : List PlaneId). AreBeside ps agents in
+    let Y = λ (xs : List Agent). IsReplayedBy 1 t c.of.result c.in_ok-state.state.totals (views_of g.H.Shelf.tells g.H.Shelf.contents g.H.Shelf.faults c.args.shelf.now c.replay_lines.new.shelf) (yard_views planes xs) in
+    subst Y (sym (written_back c.in_ok-planes.agents.len c.in_ok-planes.agents.items agents (omega arith)))
+    (replayed t (view c.args.shelf.now) (view c.replay_lines.new.shelf) no_line planes agents c.in_ok-state.state c.of.result c.requires.sound
+    (subst D c.items.ensures c.in_ok-state.ensures.done) c.of.ensures (subst B c.deref.ensures.value c.in_ok-state.ensures.beside)
+    (λ r p l. c.in_ok-planes.ensures.shapes r p (let n = c.routers.ensures.count in omega (arith, l, n))) c.entries_are.ensures)
