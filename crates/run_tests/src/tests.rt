@@ -1,6 +1,6 @@
 use page_shelf::{MemShelf, Shelf};
 use spie_base::{MemSink, MemSource, Status};
-use spie_run::{run, shelf_word};
+use spie_run::{Yard, run, shelf_word};
 use std::alloc::Global;
 use std::sync::Wait;
 use std::test::Fail;
@@ -46,7 +46,8 @@ fn ran_over<R: Threads + Wait + Sync + AllocGlobal, H: Shelf + Send>(
     let owned = owned(alloc, words)?;
     let mut source = MemSource::new(alloc, input.as_bytes(), 100, &[failing])?;
     let mut sink = MemSink::new(alloc, 1000, room, &[])?;
-    let status = run(rt, alloc, &owned, &mut source, &mut sink, shelf);
+    let mut yard = Yard::new(alloc)?;
+    let status = run(rt, alloc, &owned, &mut source, &mut sink, shelf, &mut yard);
     Ok((status, Vec::from_slice(alloc, sink.written())?))
 }
 
@@ -366,6 +367,48 @@ fn faults_and_usage(rt: HostRuntime) -> Result<(), Fail> {
     let (status, output) = ran(&rt, &["play"], "spie-play 1\n", 9999, 5)?;
     assert_eq!(rt; status, Status::WriteFault);
     assert_eq!(rt; *output.as_slice(), *b"refus".as_slice());
+    Ok(())
+}
+
+// How many routers stand in the yard behind a run.
+fn routers_after<R: Threads + Wait + Sync + AllocGlobal>(
+    rt: &R,
+    words: &[&str],
+    input: &str,
+) -> Result<u32, Fail> {
+    let alloc = rt.alloc();
+    let owned = owned(alloc, words)?;
+    let mut source = MemSource::new(alloc, input.as_bytes(), 100, &[])?;
+    let mut sink = MemSink::new(alloc, 1000, 1000, &[])?;
+    let mut shelf = MemShelf::new(alloc, &[])?;
+    let mut yard = Yard::new(alloc)?;
+    run(
+        rt,
+        alloc,
+        &owned,
+        &mut source,
+        &mut sink,
+        &mut shelf,
+        &mut yard,
+    );
+    Ok(yard.routers())
+}
+
+// Arguments, the lines behind the prelude, and how many routers are left: those of a trace that was replayed, else none.
+const YARDS: [(&[&str], &str, u32); 4] = [
+    (&["replay", "1"], "end\n", 3),
+    (&["replay", "1"], "ends\n", 0),
+    (&["replay", "0"], "end\n", 0),
+    (&["play"], "end\n", 0),
+];
+
+#[test]
+fn routers_in_the_yard(rt: HostRuntime) -> Result<(), Fail> {
+    let alloc = rt.alloc();
+    for (words, body, routers) in YARDS {
+        let input = format!(in alloc; "{PRELUDE}{body}")?;
+        assert_eq!(rt; routers_after(&rt, words, &input)?, routers, "{body}");
+    }
     Ok(())
 }
 

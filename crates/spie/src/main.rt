@@ -7,7 +7,7 @@
 //! 5 the output can't be written, 6 there is no memory. Standard error says the same in a sentence.
 //!
 //! What it does is the contract of `spie_run::run`; here stand only the edges: the arguments, standard input and
-//! output, the shelf, and what is said on standard error (`messages`), for which `front_sink` remembers how the output
+//! output, the shelf, the yard, and what is said on standard error (`messages`), for which `front_sink` remembers how the output
 //! began.
 #![tactic(auto)]
 
@@ -18,7 +18,7 @@ use crate::front_sink::FrontSink;
 use crate::messages::explain;
 use page_shelf::{FolderShelf, MemShelf, Shelf};
 use spie_base::{IoSink, IoSource, NoMemory, Sink, Source, Status};
-use spie_run::{run, shelf_word};
+use spie_run::{Yard, run, shelf_word};
 use std::alloc::Global;
 use std::process::ExitCode;
 use std::sync::Wait;
@@ -39,7 +39,7 @@ fn words(rt: &HostRuntime, alloc: Global) -> Result<Vec<String>, NoMemory> {
     Ok(words)
 }
 
-// Runs over a shelf, where there was memory for it.
+// Runs over a shelf, where there was memory for it, with a yard of its own.
 fn run_over<R: Threads + Wait + Sync, S: Source, K: Sink, H: Shelf + Send + Drop>(
     rt: &R,
     alloc: Global,
@@ -48,10 +48,13 @@ fn run_over<R: Threads + Wait + Sync, S: Source, K: Sink, H: Shelf + Send + Drop
     sink: &mut K,
     shelf: Result<H, NoMemory>,
 ) -> Status {
-    match shelf {
-        Ok(mut shelf) => run(rt, alloc, words, source, sink, &mut shelf),
-        Err(NoMemory) => Status::NoMemory,
-    }
+    let Ok(mut shelf) = shelf else {
+        return Status::NoMemory;
+    };
+    let Ok(mut yard) = Yard::new(alloc) else {
+        return Status::NoMemory;
+    };
+    run(rt, alloc, words, source, sink, &mut shelf, &mut yard)
 }
 
 fn main(rt: HostRuntime) -> ExitCode {

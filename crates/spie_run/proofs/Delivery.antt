@@ -12,30 +12,29 @@ use Rattle.spie_run.specs.Refusals.{fault_text}
 use Rattle.spie_run.specs.declared.words.Command.{Command}
 use Rattle.spie_run.specs.declared.words.Command.TheVariants.{Replay, Play}
 use Rattle.spie_run.specs.Words.{command_of}
-use Rattle.trace_history.specs.Replay.{ReplayViews}
-use Rattle.spie_run.specs.Run.{Outputs, Refuses, Answers, Views, Delivered, IsDone, IsRefused, IsCutShort, IsUntouched, HasFailed, Ran, shelf_views}
+use Rattle.spie_run.specs.Run.{Outputs, Refuses, Answers, Keeping, Views, Delivered, IsDone, IsRefused, IsCutShort, IsUntouched, HasFailed, Ran, kept_between}
 
--- a script leaves the shelf as it is, and so does what is refused
-still_at : (command : Command) (shelves : ReplayViews) (input output : List ℕ) → command ≡ Play → Outputs command shelves input output → IsUntouched shelves
-still_at Replay shelves input output e made = absurd (let q : Replay ≡ Play = e in cc)
-still_at Play shelves input output e made = made.untouched
+-- a script leaves shelf and yard as they are, and so does what is refused
+still_at : (command : Command) (kept : Keeping) (input output : List ℕ) → command ≡ Play → Outputs command kept input output → IsUntouched kept
+still_at Replay kept input output e made = absurd (let q : Replay ≡ Play = e in cc)
+still_at Play kept input output e made = made.untouched
 
-still_by : (command : Command) (s : Status) (shelves : ReplayViews) (input output : List ℕ) → command ≡ Play → Answers command s shelves input output → IsUntouched shelves
-still_by command status.Done shelves input output e made = still_at command shelves input output e made
-still_by command status.TraceRefused shelves input output e made = made.untouched
-still_by command status.No shelves input output e made = absurd made
-still_by command status.Usage shelves input output e made = absurd made
-still_by command status.ReadFault shelves input output e made = absurd made
-still_by command status.WriteFault shelves input output e made = absurd made
-still_by command status.NoMemory shelves input output e made = absurd made
+still_by : (command : Command) (s : Status) (kept : Keeping) (input output : List ℕ) → command ≡ Play → Answers command s kept input output → IsUntouched kept
+still_by command status.Done kept input output e made = still_at command kept input output e made
+still_by command status.TraceRefused kept input output e made = made.untouched
+still_by command status.No kept input output e made = absurd made
+still_by command status.Usage kept input output e made = absurd made
+still_by command status.ReadFault kept input output e made = absurd made
+still_by command status.WriteFault kept input output e made = absurd made
+still_by command status.NoMemory kept input output e made = absurd made
 
 -- an input that is longer than its limit
 too_long_text : codes "refused 0 too-long\n" ≡ fault_text too_long
 too_long_text = ap (λ digits. codes "refused " ++ digits ++ 32 ∷ codes "too-long" ++ 10 ∷ []) (sym (decimal_digit 0 (lit< tt)))
 
-refused_long : (command : Command) (shelves : ReplayViews) (input : List ℕ) → IsUntouched shelves → most_bytes < length input → Refuses command shelves input (codes "refused 0 too-long\n")
-refused_long Replay shelves input same long = record { fault = too_long; first = inl (long, refl); says = too_long_text; untouched = same }
-refused_long Play shelves input same long = record { fault = too_long; first = inl (long, refl); says = too_long_text; untouched = same }
+refused_long : (command : Command) (kept : Keeping) (input : List ℕ) → IsUntouched kept → most_bytes < length input → Refuses command kept input (codes "refused 0 too-long\n")
+refused_long Replay kept input same long = record { fault = too_long; first = inl (long, refl); says = too_long_text; untouched = same }
+refused_long Play kept input same long = record { fault = too_long; first = inl (long, refl); says = too_long_text; untouched = same }
 
 past_limit : (bytes : List ℕ) → length bytes ≡ most_bytes + 1 → most_bytes < length bytes
 past_limit bytes e = omega (arith, e)
@@ -54,6 +53,8 @@ ran_usage words v none = record {
   read_first = λ e. absurd (let q : status.Usage ≡ status.WriteFault = e in cc);
   idle = λ h. refl;
   plays_alone = λ e. refl;
+  unopened = λ h. refl;
+  plays_no_yard = λ e. refl;
   complete = λ some. absurd (let q : IsSome {T = Command} None = subst IsSome none some in cc);
 }
 
@@ -65,8 +66,8 @@ module _ (words : List (List ℕ)) (before after : Views) (command : Command) (a
   it_plays e = let q : Some command ≡ Some Play = sym asked ∙ e in cc
 
   -- the source failed
-  pub ran_unread : HasFailed before.source after.source → after.shelf ≡ before.shelf → Ran words before after status.ReadFault
-  ran_unread failed same = record {
+  pub ran_unread : HasFailed before.source after.source → after.shelf ≡ before.shelf → after.yard ≡ before.yard → Ran words before after status.ReadFault
+  ran_unread failed same unopened = record {
     done = λ e. absurd (let q : status.ReadFault ≡ status.Done = e in cc);
     refused = λ e. absurd (let q : status.ReadFault ≡ status.TraceRefused = e in cc);
     cut_short = λ e. absurd (let q : status.ReadFault ≡ status.WriteFault = e in cc);
@@ -78,12 +79,14 @@ module _ (words : List (List ℕ)) (before after : Views) (command : Command) (a
     read_first = λ e. absurd (let q : status.ReadFault ≡ status.WriteFault = e in cc);
     idle = λ h. same;
     plays_alone = λ e. same;
+    unopened = λ h. unopened;
+    plays_no_yard = λ e. unopened;
     complete = λ some well. absurd (well.0 failed);
   }
 
   -- memory was refused
-  pub ran_no_memory : after.source.faults ≡ before.source.faults → after.sink.faults ≡ before.sink.faults → (command ≡ Play → after.shelf ≡ before.shelf) → Ran words before after status.NoMemory
-  ran_no_memory read kept still = record {
+  pub ran_no_memory : after.source.faults ≡ before.source.faults → after.sink.faults ≡ before.sink.faults → (command ≡ Play → after.shelf ≡ before.shelf) → after.yard ≡ before.yard → Ran words before after status.NoMemory
+  ran_no_memory read kept still unopened = record {
     done = λ e. absurd (let q : status.NoMemory ≡ status.Done = e in cc);
     refused = λ e. absurd (let q : status.NoMemory ≡ status.TraceRefused = e in cc);
     cut_short = λ e. absurd (let q : status.NoMemory ≡ status.WriteFault = e in cc);
@@ -95,11 +98,13 @@ module _ (words : List (List ℕ)) (before after : Views) (command : Command) (a
     read_first = λ e. absurd (let q : status.NoMemory ≡ status.WriteFault = e in cc);
     idle = λ h. absurd h;
     plays_alone = λ e. still (it_plays e);
+    unopened = λ h. unopened;
+    plays_no_yard = λ e. unopened;
     complete = λ some well. tt;
   }
 
   -- the output is written whole
-  ran_done : IsDone words before after → after.source.faults ≡ before.source.faults → after.sink.faults ≡ before.sink.faults → (command ≡ Play → after.shelf ≡ before.shelf) → Ran words before after status.Done
+  ran_done : IsDone words before after → after.source.faults ≡ before.source.faults → after.sink.faults ≡ before.sink.faults → (command ≡ Play → IsUntouched (kept_between before after)) → Ran words before after status.Done
   ran_done is read kept still = record {
     done = λ e. is;
     refused = λ e. absurd (let q : status.Done ≡ status.TraceRefused = e in cc);
@@ -111,7 +116,9 @@ module _ (words : List (List ℕ)) (before after : Views) (command : Command) (a
     faultless = λ h. (read, kept);
     read_first = λ e. absurd (let q : status.Done ≡ status.WriteFault = e in cc);
     idle = λ h. absurd h;
-    plays_alone = λ e. still (it_plays e);
+    plays_alone = λ e. (still (it_plays e)).0;
+    unopened = λ h. absurd h;
+    plays_no_yard = λ e. (still (it_plays e)).1;
     complete = λ some well. tt;
   }
 
@@ -127,13 +134,15 @@ module _ (words : List (List ℕ)) (before after : Views) (command : Command) (a
     write_fault = λ e. absurd (let q : status.TraceRefused ≡ status.WriteFault = e in cc);
     faultless = λ h. (read, kept);
     read_first = λ e. absurd (let q : status.TraceRefused ≡ status.WriteFault = e in cc);
-    idle = λ h. is.refuses.untouched;
-    plays_alone = λ e. is.refuses.untouched;
+    idle = λ h. is.refuses.untouched.0;
+    plays_alone = λ e. is.refuses.untouched.0;
+    unopened = λ h. is.refuses.untouched.1;
+    plays_no_yard = λ e. is.refuses.untouched.1;
     complete = λ some well. tt;
   }
 
   -- the sink failed
-  ran_cut_short : IsCutShort words before after → after.source.faults ≡ before.source.faults → HasFailed before.sink after.sink → (command ≡ Play → after.shelf ≡ before.shelf) → Ran words before after status.WriteFault
+  ran_cut_short : IsCutShort words before after → after.source.faults ≡ before.source.faults → HasFailed before.sink after.sink → (command ≡ Play → IsUntouched (kept_between before after)) → Ran words before after status.WriteFault
   ran_cut_short is read failed still = record {
     done = λ e. absurd (let q : status.WriteFault ≡ status.Done = e in cc);
     refused = λ e. absurd (let q : status.WriteFault ≡ status.TraceRefused = e in cc);
@@ -145,16 +154,18 @@ module _ (words : List (List ℕ)) (before after : Views) (command : Command) (a
     faultless = λ h. absurd h;
     read_first = λ e. read;
     idle = λ h. absurd h;
-    plays_alone = λ e. still (it_plays e);
+    plays_alone = λ e. (still (it_plays e)).0;
+    unopened = λ h. absurd h;
+    plays_no_yard = λ e. (still (it_plays e)).1;
     complete = λ some well. absurd (well.1 failed);
   }
 
   -- a text that is written whole ends the run as the answer says
   ran_whole : (want : Status) (text output : List ℕ) → Consumes before.source.bytes after.source.bytes text → IsAtEnd after.source.bytes → after.source.faults ≡ before.source.faults
-      → Answers command want (shelf_views before after) text output → Appends before.sink.bytes after.sink.bytes output → after.sink.faults ≡ before.sink.faults → Ran words before after want
+      → Answers command want (kept_between before after) text output → Appends before.sink.bytes after.sink.bytes output → after.sink.faults ≡ before.sink.faults → Ran words before after want
   ran_whole status.Done text output took end read answers wrote kept =
       ran_done (record { command = command; input = text; output = output; asked = asked; read = took; at_end = end; made = answers; written = wrote }) read kept
-      (λ e. still_by command status.Done (shelf_views before after) text output e answers)
+      (λ e. still_by command status.Done (kept_between before after) text output e answers)
   ran_whole status.TraceRefused text output took end read answers wrote kept =
       ran_refused (record { command = command; input = text; output = output; asked = asked; read = (took, inl end); refuses = answers; written = wrote }) read kept
   ran_whole status.No text output took end read answers wrote kept = absurd answers
@@ -165,7 +176,7 @@ module _ (words : List (List ℕ)) (before after : Views) (command : Command) (a
 
   -- the input was read to its end, and its answer delivered
   pub ran_reply : (want answer : Status) (text output : List ℕ) → Consumes before.source.bytes after.source.bytes text → IsAtEnd after.source.bytes → after.source.faults ≡ before.source.faults
-      → Answers command want (shelf_views before after) text output → Delivered want answer before.sink after.sink output → Ran words before after answer
+      → Answers command want (kept_between before after) text output → Delivered want answer before.sink after.sink output → Ran words before after answer
   ran_reply want answer text output took end read answers d =
       let P : Status → Type 0 = λ s. Ran words before after s in
       ⊎_elim
@@ -173,14 +184,14 @@ module _ (words : List (List ℕ)) (before after : Views) (command : Command) (a
       (λ cut.
       subst P (sym cut.0)
       (ran_cut_short (record { command = command; input = text; status = want; output = output; asked = asked; read = (took, inl end); answers = answers; front = cut.1.0 }) read cut.1.1
-      (λ e. still_by command want (shelf_views before after) text output e answers)))
+      (λ e. still_by command want (kept_between before after) text output e answers)))
       d.outcome
 
   -- the input is longer than its limit
   pub ran_long : (answer : Status) → TookCount before.source.bytes after.source.bytes (λ count. count ≡ most_bytes + 1) → after.source.faults ≡ before.source.faults
-      → Delivered status.TraceRefused answer before.sink after.sink (codes "refused 0 too-long\n") → after.shelf ≡ before.shelf → Ran words before after answer
+      → Delivered status.TraceRefused answer before.sink after.sink (codes "refused 0 too-long\n") → IsUntouched (kept_between before after) → Ran words before after answer
   ran_long answer took read d same =
-      let refuses = refused_long command (shelf_views before after) took.0 same (past_limit took.0 took.2) in
+      let refuses = refused_long command (kept_between before after) took.0 same (past_limit took.0 took.2) in
       let P : Status → Type 0 = λ s. Ran words before after s in
       ⊎_elim
       (λ whole.

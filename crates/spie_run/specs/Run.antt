@@ -1,7 +1,7 @@
 -- What a run answers, and what it reads, writes and keeps.
 --
--- Read `Ran` first, at the end: it is the promise of the program, by the arguments, the status, and what source, sink and
--- shelf tell before the run and after it.
+-- Read `Ran` first, at the end: it is the promise of the program, by the arguments, the status, and what source, sink,
+-- shelf and yard tell before the run and after it.
 use Rattle.std.specs.Prelude.{ℕ, ◌+◌, ◌≤◌, ◌≡◌, ◌⊎◌, ◌↔◌, List, length, Some, None, IsSome}
 use Rattle.std.specs.declared.option.Option.{Option}
 use Rattle.std.specs.Io.KnownBytes.{Consumes, Appends, IsAtEnd}
@@ -19,53 +19,63 @@ use Rattle.trace_format.specs.Limits.{most_bytes}
 use Rattle.trace_format.specs.Trace.{IsTrace}
 use Rattle.trace_format.specs.declared.Trace.{Trace}
 use Rattle.trace_format.specs.declared.TraceRefused.{TraceRefused}
-use Rattle.trace_history.specs.Replay.{IsReplayed, ReplayViews}
+use Rattle.trace_history.specs.Replay.{ReplayViews}
+use Rattle.trace_history.specs.Workers.{IsReplayedBy, YardView}
 use Rattle.trace_history.specs.declared.Totals.{Totals}
 use Rattle.spie_run.specs.Refusals.{fault_text}
 use Rattle.spie_run.specs.Words.{command_of}
 use Rattle.spie_run.specs.declared.words.Command.{Command}
 use Rattle.spie_run.specs.declared.words.Command.TheVariants.{Replay, Play}
 
--- a shelf is after a run as it was before it
-abbrev pub IsUntouched : ReplayViews → Type 0
-IsUntouched shelves = shelves.shelf_after ≡ shelves.shelf_before
+-- what a run was lent to keep pages in, before it and after it
+pub record Keeping : Type 0 where
+  pub shelves : ReplayViews
+  pub yard_before : List YardView
+  pub yard_after : List YardView
 
--- the input is a trace, and the output is the report of a replay of it by one worker over a shelf
-pub record Reports (shelves : ReplayViews) (input output : List ℕ) : Type 0 where
+-- shelf and yard are after a run as they were before it
+abbrev pub IsUntouched : Keeping → Type 0
+IsUntouched kept = (kept.shelves.shelf_after ≡ kept.shelves.shelf_before) × (kept.yard_after ≡ kept.yard_before)
+
+-- the input is a trace, and the output is the report of a replay of it by one worker over a shelf, which leaves the yard
+pub record Reports (kept : Keeping) (input output : List ℕ) : Type 0 where
   pub trace : Trace
   pub totals : Totals
   pub read : IsTrace input trace
-  pub replayed : IsReplayed trace output totals shelves
+  pub replayed : IsReplayedBy 1 trace output totals kept.shelves kept.yard_after
 
 -- the input is a script, and the output is the text of its steps, done in order from the start
-pub record Plays (shelves : ReplayViews) (input output : List ℕ) : Type 0 where
+pub record Plays (kept : Keeping) (input output : List ℕ) : Type 0 where
   pub script : PlayScript
   pub read : IsScript input script
   pub played : IsReport script output
-  pub untouched : IsUntouched shelves
+  pub untouched : IsUntouched kept
 
 -- the output is what the command makes of the input
-abbrev pub Outputs : Command → ReplayViews → (input output : List ℕ) → Type 0
-Outputs Replay shelves input output = Reports shelves input output
-Outputs Play shelves input output = Plays shelves input output
+abbrev pub Outputs : Command → Keeping → (input output : List ℕ) → Type 0
+Outputs Replay kept input output = Reports kept input output
+Outputs Play kept input output = Plays kept input output
 
 -- the first fault of an input that is no trace, or no script
 abbrev pub IsFaultFor : Command → (input : List ℕ) → TraceRefused → Type 0
 IsFaultFor Replay input fault = IsFault input fault
 IsFaultFor Play input fault = script_text.IsFault input fault
 
--- the input has a fault, the output says so, and the shelf was not used
-pub record Refuses (command : Command) (shelves : ReplayViews) (input output : List ℕ) : Type 0 where
+-- the input has a fault, the output says so, and shelf and yard were not used
+pub record Refuses (command : Command) (kept : Keeping) (input output : List ℕ) : Type 0 where
   pub fault : TraceRefused
   pub first : IsFaultFor command input fault
   pub says : output ≡ fault_text fault
-  pub untouched : IsUntouched shelves
+  pub untouched : IsUntouched kept
 
 -- what is written at the end of a run that read its input
-abbrev pub Answers : Command → Status → ReplayViews → (input output : List ℕ) → Type 0
-Answers command status.Done shelves input output = Outputs command shelves input output
-Answers command status.TraceRefused shelves input output = Refuses command shelves input output
-Answers command _ shelves input output = ⊥
+abbrev pub Answers : Command → Status → Keeping → (input output : List ℕ) → Type 0
+Answers command status.Done kept input output = Outputs command kept input output
+Answers command status.TraceRefused kept input output = Refuses command kept input output
+Answers command _ kept input output = ⊥
+
+abbrev pub keeping : ReplayViews → (yard_before yard_after : List YardView) → Keeping
+keeping shelves before after = record { shelves = shelves; yard_before = before; yard_after = after }
 
 -- ---- what a run was lent
 
@@ -79,16 +89,17 @@ pub record Views : Type 0 where
   pub source : Told
   pub sink : Told
   pub shelf : ShelfView
+  pub yard : List YardView
 
 abbrev pub told : {X : Type 0} → (X → Option (List ℕ)) → (X → ℕ) → X → Told
 told bytes faults x = record { bytes = bytes x; faults = faults x }
 
-abbrev pub views : (source sink : Told) → (shelf : ShelfView) → Views
-views source sink shelf = record { source = source; sink = sink; shelf = shelf }
+abbrev pub views : (source sink : Told) → (shelf : ShelfView) → (yard : List YardView) → Views
+views source sink shelf yard = record { source = source; sink = sink; shelf = shelf; yard = yard }
 
--- the shelf before a run and after it
-abbrev pub shelf_views : (before after : Views) → ReplayViews
-shelf_views before after = record { shelf_before = before.shelf; shelf_after = after.shelf }
+-- shelf and yard before a run and after it
+abbrev pub kept_between : (before after : Views) → Keeping
+kept_between before after = keeping (record { shelf_before = before.shelf; shelf_after = after.shelf }) before.yard after.yard
 
 -- an input was read to its end, or to one byte past its limit
 abbrev pub IsReadOut : (before after : Told) → (input : List ℕ) → Type 0
@@ -118,7 +129,7 @@ pub record IsDone (words : List (List ℕ)) (before after : Views) : Type 0 wher
   pub asked : command_of words ≡ Some command
   pub read : Consumes before.source.bytes after.source.bytes input
   pub at_end : IsAtEnd after.source.bytes
-  pub made : Outputs command (shelf_views before after) input output
+  pub made : Outputs command (kept_between before after) input output
   pub written : Appends before.sink.bytes after.sink.bytes output
 
 -- TraceRefused: the input was read out, it is refused, and the line that says so was written
@@ -128,7 +139,7 @@ pub record IsRefused (words : List (List ℕ)) (before after : Views) : Type 0 w
   pub output : List ℕ
   pub asked : command_of words ≡ Some command
   pub read : IsReadOut before.source after.source input
-  pub refuses : Refuses command (shelf_views before after) input output
+  pub refuses : Refuses command (kept_between before after) input output
   pub written : Appends before.sink.bytes after.sink.bytes output
 
 -- WriteFault: the input was read out, what was to be written was made, and a prefix of it stands
@@ -139,7 +150,7 @@ pub record IsCutShort (words : List (List ℕ)) (before after : Views) : Type 0 
   pub output : List ℕ
   pub asked : command_of words ≡ Some command
   pub read : IsReadOut before.source after.source input
-  pub answers : Answers command status (shelf_views before after) input output
+  pub answers : Answers command status (kept_between before after) input output
   pub front : AppendsFront before.sink.bytes after.sink.bytes output
 
 -- the statuses of a run in which neither source nor sink failed, and whose arguments are right
@@ -155,6 +166,12 @@ IsIdle status.Usage = Unit {0}
 IsIdle status.ReadFault = Unit {0}
 IsIdle status.TraceRefused = Unit {0}
 IsIdle _ = ⊥
+
+-- the statuses of a run that fills no yard
+abbrev pub IsUnopened : Status → Type 0
+IsUnopened status.Done = ⊥
+IsUnopened status.WriteFault = ⊥
+IsUnopened _ = Unit {0}
 
 abbrev pub HasFailed : (before after : Told) → Type 0
 HasFailed before after = Rose before.faults after.faults
@@ -184,5 +201,8 @@ pub record Ran (words : List (List ℕ)) (before after : Views) (answer : Status
   -- the shelf stays as it was where nothing is replayed
   pub idle : IsIdle answer → after.shelf ≡ before.shelf
   pub plays_alone : command_of words ≡ Some Play → after.shelf ≡ before.shelf
+  -- and the yard, but where a replay was done
+  pub unopened : IsUnopened answer → after.yard ≡ before.yard
+  pub plays_no_yard : command_of words ≡ Some Play → after.yard ≡ before.yard
   -- with right arguments and no fault a run is done, or its input is refused, or memory was refused
   pub complete : IsSome (command_of words) → NoneFailed before after → IsFaultless answer

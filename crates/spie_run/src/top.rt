@@ -1,7 +1,7 @@
 // The top call: reads the whole input, has the whole output made, and writes it.
-ghost use Rattle.std.specs.Prelude.{◌≡◌, ◌⊎◌, map, string_bytes};
+ghost use Rattle.std.specs.Prelude.{◌≡◌, ◌⊎◌, [], map, string_bytes};
 ghost use Rattle.spie_base.specs.declared.Status.{Status};
-ghost use Rattle.trace_replay.specs.Agents.{view_of};
+ghost use Rattle.router_account.specs.Shelves.{view_of};
 ghost use Rattle.spie_run.specs.Run.{told, views, Delivered, Ran};
 
 use crate::replies::reply_to;
@@ -12,6 +12,7 @@ use std::alloc::Global;
 use std::sync::Wait;
 use std::thread::Threads;
 use trace_format::MOST_BYTES;
+use trace_replay::Yard;
 
 // What is written where the input has more than `MOST_BYTES` bytes.
 const TOO_LONG: &[u8] = b"refused 0 too-long\n";
@@ -28,23 +29,26 @@ fn deliver<K: Sink>(sink: &mut K, status: Status, text: &[u8]) -> Status
 
 /// Reads a whole input, does what the arguments ask for, and writes the whole output. `replay 1` asks for the report
 /// of a trace, and so does `replay 1 FOLDER`: which shelf the archived pages are put on is the caller's choice, by
-/// `shelf_word`. `play` asks for what the steps of a script answered, and uses no shelf. An unknown command and wrong
-/// arguments are `Usage`. These commands wait for nobody, so the call returns.
+/// `shelf_word`. The trace's routers are left in the yard, where the report was made. `play` asks for what the steps of a
+/// script answered, and uses neither. An unknown command and wrong arguments are `Usage`. These commands wait for nobody,
+/// so the call returns.
 ///
 /// Nothing is written before the input was read, to its end or one byte past its limit of 64 MiB, and the
-/// output made whole. Takes the input, what is kept of it, and the output.
+/// output made whole. Takes the input, what is kept of it, the yard, and the output.
 pub fn run_alone<S: Source, K: Sink, H: Shelf>(
     alloc: Global,
     words: &[String],
     source: &mut S,
     sink: &mut K,
     shelf: &mut H,
+    yard: &mut Yard,
 ) -> Status
+    requires empty { yard.old ≡ [] }
     ensures ran { Ran (map string_bytes words.now)
         (views (told S.left S.faults source.old) (told K.written K.faults sink.old)
-        (view_of H.tells H.contents H.faults shelf.old))
+        (view_of H.tells H.contents H.faults shelf.old) yard.old)
         (views (told S.left S.faults source.new) (told K.written K.faults sink.new)
-        (view_of H.tells H.contents H.faults shelf.new)) result }
+        (view_of H.tells H.contents H.faults shelf.new) yard.new) result }
     ensures untouched { result ≡ Status.Usage
         → (source.new ≡ source.old) × (sink.new ≡ sink.old) × (shelf.new ≡ shelf.old) }
     ensures unwritten { (result ≡ Status.ReadFault ⊎ result ≡ Status.NoMemory) → sink.new ≡ sink.old }
@@ -53,7 +57,7 @@ pub fn run_alone<S: Source, K: Sink, H: Shelf>(
         return Status::Usage;
     };
     match read_all(alloc, source, MOST_BYTES) {
-        Ok(text) => match reply_to(alloc, command, text, shelf) {
+        Ok(text) => match reply_to(alloc, command, text, shelf, yard) {
             Ok(reply) => deliver(sink, reply.status, &reply.text),
             Err(NoMemory) => Status::NoMemory,
         },
@@ -72,15 +76,17 @@ pub fn run<R: Threads + Wait + Sync, S: Source, K: Sink, H: Shelf + Send>(
     source: &mut S,
     sink: &mut K,
     shelf: &mut H,
+    yard: &mut Yard,
 ) -> Status
+    requires empty { yard.old ≡ [] }
     ensures ran { Ran (map string_bytes words.now)
         (views (told S.left S.faults source.old) (told K.written K.faults sink.old)
-        (view_of H.tells H.contents H.faults shelf.old))
+        (view_of H.tells H.contents H.faults shelf.old) yard.old)
         (views (told S.left S.faults source.new) (told K.written K.faults sink.new)
-        (view_of H.tells H.contents H.faults shelf.new)) result }
+        (view_of H.tells H.contents H.faults shelf.new) yard.new) result }
     ensures untouched { result ≡ Status.Usage
         → (source.new ≡ source.old) × (sink.new ≡ sink.old) × (shelf.new ≡ shelf.old) }
     ensures unwritten { (result ≡ Status.ReadFault ⊎ result ≡ Status.NoMemory) → sink.new ≡ sink.old }
 {
-    run_alone(alloc, words, source, sink, shelf)
+    run_alone(alloc, words, source, sink, shelf, yard)
 }

@@ -23,4 +23,4 @@ returns-in-Err-TooLong-clause-ran g c =
     let T : ReadRefused → Type 0 = λ why. Took (g.S.Source.left c.args.source.now) (g.S.Source.left c.read_all.new.source) most_bytes (Err why) in
     let C : ReadRefused → Type 0 = λ why. HasReadCause {T = Vec ℕ Global} (g.S.Source.faults c.args.source.now) (g.S.Source.faults c.read_all.new.source) (Err why) in
     ran_long _ _ _ c.in-Some.command (sym c.command_of.ensures ∙ c.in-Some.is) c.deliver-in-Err-TooLong.result (subst T c.in-Err-TooLong.field-0-is (c.in-Err-TooLong.ensures).took)
-    (subst C c.in-Err-TooLong.field-0-is (c.in-Err-TooLong.ensures).cause) c.deliver-in-Err-TooLong.ensures refl
+    (subst C c.in-Err-TooLong.field-0-is (c.in-Err-TooLong.ensures).cause) c.deliver-in-Err-TooLong.ensures (refl, refl)
