@@ -143,6 +143,8 @@ def measure(name, program, source, shelf=()):
 
 def main():
     program = sys.argv[1] if len(sys.argv) > 1 else os.path.join(HERE, "..", "crates", "spie", "out", "spie")
+    if not os.access(program, os.X_OK):
+        sys.exit("no program at %s: build it first (bench/README.md)" % program)
     print("%-16s %9s %10s %8s %8s %6s %10s %6s" % ("input", "lines", "bytes", "spie", "sha256", "ratio", "peak", "B/line"))
     cases = [("fwd 10^%d" % power, forwards, 10 ** power) for power in (4, 5, 6)]
     cases += [("ticks 10^6", ticks, 10 ** 6), ("watches 10^6", watches, 10 ** 6), ("rotations 4096", rotations, 4096)]

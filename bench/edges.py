@@ -78,6 +78,8 @@ def many_rotations(ticks):
 
 def main():
     program = sys.argv[1] if len(sys.argv) > 1 else os.path.join(HERE, "../crates/spie/out/spie")
+    if not os.access(program, os.X_OK):
+        sys.exit("no program at %s: build it first (bench/README.md)" % program)
     failed = 0
     for name, (lines, report) in [("4,096 ticks", many_ticks()), ("4,096 rotations", many_rotations(False)), ("and a tick", many_rotations(True))]:
         begin = time.perf_counter()

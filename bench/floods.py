@@ -41,6 +41,8 @@ def least(program, what, reach, signatures, times):
 
 def main():
     program = sys.argv[1] if len(sys.argv) > 1 else os.path.join(HERE, "..", "crates", "flood_bench", "out", "flood_bench")
+    if not os.access(program, os.X_OK):
+        sys.exit("no program at %s: build it first (bench/README.md)" % program)
     before = os.getloadavg()[0]
     rows = []
     for reach in (8, 4, 1):

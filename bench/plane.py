@@ -4,7 +4,7 @@
     bench/plane.py [PROGRAM]      PROGRAM is crates/plane_bench/out/plane_bench by default
 
 For 3 and 8 marks: nanoseconds a record into a plain page, and through passes in 1, 2 and 4 threads, on one plane
-and on planes of their own. Each number is the least of RUNS runs, less that of a loop that only reads the signatures:
+and on planes of their own; on one plane also by `record`. Each number is the least of RUNS runs, less that of a loop that only reads the signatures:
 by the clock, and by the processor time of all threads. Both are for one record of one thread.
 """
 import datetime
@@ -29,7 +29,7 @@ def run(program, what, marks, threads):
     child.returncode = os.waitstatus_to_exitcode(status)
     if child.returncode != 0:
         sys.exit("%s ended with %d" % (" ".join(words), child.returncode))
-    if what in ("shared", "own") and int(printed) != threads * RECORDS:
+    if what in ("shared", "record", "own") and int(printed) != threads * RECORDS:
         sys.exit("%s: %s records entered" % (" ".join(words), printed.decode().strip()))
     return seconds, usage.ru_utime + usage.ru_stime
 
@@ -41,11 +41,14 @@ def least(program, what, marks, threads):
 
 def main():
     program = sys.argv[1] if len(sys.argv) > 1 else os.path.join(HERE, "..", "crates", "plane_bench", "out", "plane_bench")
+    if not os.access(program, os.X_OK):
+        sys.exit("no program at %s: build it first (bench/README.md)" % program)
     before = os.getloadavg()[0]
     loop = least(program, "loop", 3, 1)
     cases = [("`Page::insert`", "page", 1)]
-    cases += [("`try_record`, %d thread%s, %s" % (threads, "s" if threads > 1 else "", where), what, threads)
-              for what, where in (("shared", "one plane"), ("own", "planes of their own")) for threads in (1, 2, 4)]
+    cases += [("`%s`, %d thread%s, %s" % (call, threads, "s" if threads > 1 else "", where), what, threads)
+              for call, what, where in (("try_record", "shared", "one plane"), ("record", "record", "one plane"),
+                                        ("try_record", "own", "planes of their own")) for threads in (1, 2, 4)]
     rows = []
     for name, what, threads in cases:
         cells = []

@@ -8,6 +8,8 @@ spie=${1:-$here/../crates/spie/out/spie}
 out=$(mktemp) err=$(mktemp) folder=$(mktemp -d)
 failed=0
 
+[ -x "$spie" ] || { echo "no program at $spie: build it first (README.md)"; exit 2; }
+
 check() { # NAME WANTED GOT
     if [ "$2" != "$3" ]; then
         echo "$1: $3 in place of $2"
