@@ -57,11 +57,15 @@ impl Family {
         ensures below { All (λ p. p < 2 ^ self.now.n) (take result.count result.at) }
     {
         let words = sig_words(sig);
-        let mut at = [0; 8];
+        // The marks are put in place: a copy of numbers that were just written would wait for them.
+        let mut marks = Marks {
+            at: [0; 8],
+            count: self.k,
+        };
         for i in 0..usize::from(self.k) {
-            at[i] = top_bits(weighed(&self.rows[i], &words), self.n);
+            marks.at[i] = top_bits(weighed(&self.rows[i], &words), self.n);
         }
-        Marks { at, count: self.k }
+        marks
     }
 }
 

@@ -88,7 +88,9 @@ impl Topology {
         }
     }
 
-    // The router with a name, by hash.
+    // The router with a name, by hash. It is apart, so that a right guess pays nothing for it.
+    #[cold]
+    #[inline(never)]
     fn indexed(&self, name: &[u8]) -> Option<RouterId>
         ensures { result ≡ router_named self.now.names name.now }
     {

@@ -11,7 +11,7 @@ use Rattle.std.proofs.lemmas.Str.Parse.{IsNumeralModel, numerals_by_value, tells
 use Rattle.std.specs.Char.{is_ascii_digit}
 use Rattle.std.specs.Fmt.{decimal}
 use Rattle.std.specs.List.{All, slice_split}
-use Rattle.std.specs.Str.{all_ascii_digits, bytes_eq}
+use Rattle.std.specs.Str.{all_ascii_digits}
 use Rattle.std.specs.Str.Parse.{AllDigits, digits_value}
 use Rattle.spie_base.proofs.Booleans.{both_held}
 use Rattle.spie_base.proofs.Bounds.{within}
@@ -31,7 +31,6 @@ use Rattle.trace_format.specs.declared.steps.Stop.{Stop}
 use Rattle.trace_format.specs.declared.words.Word.TheVariants as word
 use Rattle.trace_format.proofs.Again.{spelled_reads}
 use Rattle.trace_format.proofs.Stages.{open_stage}
-use Rattle.trace_format.proofs.FieldForms.{same}
 use Rattle.line_text.proofs.NextLines.{read_bad}
 use Rattle.trace_format.proofs.Answering.{stops}
 use Rattle.trace_format.specs.Fault.{refusals}
@@ -58,15 +57,6 @@ numbered text n v some few lt digits value most plain end =
       most = most;
       short = rw (← is) (omega (arith, len));
     }
-
-held : (b : Bool) → false ≡ not b → b ≡ true
-held true e = refl
-held false e = absurd (false≢true e)
-
--- a text whose first four bytes are the word and a space
-pub front_word : (text word : List ℕ) → word ≡ codes "fwd" ++ 32 ∷ [] → false ≡ not (bytes_eq (take 4 text) word) → text ≡ codes "fwd" ++ 32 ∷ take (length text - 4) (drop 4 text)
-front_word text word is e =
-    rw (whole_rest text 4) (sym (take-append-drop 4 text) ∙ ap (λ z. z ++ drop 4 text) (same (take 4 text) word (held _ e) ∙ is))
 
 -- where none of these bytes is that one
 abbrev LeavesOut : ℕ → List ℕ → Type 0
