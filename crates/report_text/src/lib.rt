@@ -12,4 +12,4 @@ pub mod laws;
 mod lines;
 
 pub use items::{Bad, CauseWord, Item};
-pub use lines::push_item;
+pub use lines::{push_entered, push_item};

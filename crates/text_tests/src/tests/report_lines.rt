@@ -2,7 +2,7 @@
 ghost use Rattle.std.specs.Prelude.{◌<◌, length};
 
 use line_text::{push, push_count, push_counted, push_field, push_number, push_word};
-use report_text::{Bad, CauseWord, Item, push_item};
+use report_text::{Bad, CauseWord, Item, push_entered, push_item};
 use reverse_flood::{Edge, Node};
 use spie_base::{List, PageNo, PageRange, RouterId, Sig};
 use std::alloc::{AllocError, Global};
@@ -30,6 +30,8 @@ const CAUSES: [(u32, CauseWord); 4] = [
     (5, CauseWord::Absent),
     (16, CauseWord::Broken),
 ];
+
+const ENTERED: &[u8] = b"10 in 12\n";
 
 const PLAIN: &[u8] = b"\
 spie-report 1\n\
@@ -119,6 +121,14 @@ fn items_without_routers(rt: HostRuntime) -> Result<(), Fail> {
     push_item(&mut out, &topology, &answer)?;
     push_item(&mut out, &topology, &Item::End { line: 1_000_000 })?;
     assert_eq!(rt; out.as_slice(), PLAIN);
+    Ok(())
+}
+
+#[test]
+fn record_without_an_item(rt: HostRuntime) -> Result<(), Fail> {
+    let mut out = Vec::new(rt.alloc());
+    push_entered(&mut out, 10, PAGE)?;
+    assert_eq!(rt; out.as_slice(), ENTERED);
     Ok(())
 }
 
