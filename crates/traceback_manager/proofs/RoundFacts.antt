@@ -1,10 +1,9 @@
 -- The leads of a round, region by region.
-use Rattle.std.proofs.Common.{◌≡◌, ◌∙◌, ℕ, ◌+◌, ◌<◌, ◌≤◌, ◌⊎◌, inl, inr, ⊎_elim, true, Bool, List, [], ◌∷◌, ◌++◌, length, map, slice_index, append-nil, eq-eqb, refl, sym, subst, ap, arith}
+use Rattle.std.proofs.Common.{◌≡◌, ℕ, ◌+◌, ◌<◌, ◌⊎◌, inl, inr, ⊎_elim, List, [], ◌∷◌, length, eq-eqb, refl, subst, arith}
 use Rattle.std.specs.Prelude.{nat_le, ◌==◌}
-use Rattle.std.specs.List.{Contains, filter}
+use Rattle.std.specs.List.{Contains}
 use Rattle.std.proofs.lemmas.Bool.{cases_eq, eqb-true, le-leb, leb-true}
-use Rattle.std.proofs.lemmas.List.Elements.{Contains-append_left, Contains-append_right, Contains-append_cases}
-use Rattle.spie_base.proofs.Membership.{has_none, from_filter, into_filter, from_map, into_map}
+use Rattle.spie_base.proofs.Membership.{from_filter, into_filter, from_map, into_map}
 use Rattle.topology.specs.Layout.{Layout}
 use Rattle.reverse_flood.specs.declared.graphs.Node.{Node}
 use Rattle.reverse_flood.specs.declared.leads.Lead.{Lead}

@@ -1,4 +1,4 @@
-use Rattle.std.proofs.Common.{◌≡◌, ◌++◌, List, subst, sym}
+use Rattle.std.proofs.Common.{◌++◌, List, subst, sym}
 use Rattle.std.specs.List.{Contains}
 use Rattle.spie_base.proofs.Membership.{from_map}
 use Rattle.reverse_flood.specs.declared.leads.Lead.{Lead}

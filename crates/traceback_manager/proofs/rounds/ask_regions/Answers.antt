@@ -1,4 +1,4 @@
-use Rattle.std.proofs.Common.{◌≡◌, ◌++◌, ◌+◌, ◌<◌, ◌≤◌, [], List, length, ⊎_elim, subst, arith}
+use Rattle.std.proofs.Common.{◌++◌, ◌+◌, ◌<◌, List, ⊎_elim, subst, arith}
 use Rattle.std.specs.List.{Contains}
 use Rattle.std.proofs.lemmas.List.Elements.{Contains-append_left, Contains-append_right, Contains-append_cases}
 use Rattle.spie_base.proofs.Membership.{has_none}

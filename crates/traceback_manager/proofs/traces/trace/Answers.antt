@@ -1,8 +1,6 @@
 use Rattle.std.proofs.Common.{◌≡◌, ◌∙◌, ◌∷◌, [], List, length, sym, subst, ap, arith}
-use Rattle.std.specs.List.{Contains}
 use Rattle.std.specs.Vec.{vec_len}
 use Rattle.std.proofs.lemmas.Bool.Decides.{Decides-eqb}
-use Rattle.spie_base.proofs.Membership.{has_one}
 use Rattle.reverse_flood.specs.declared.leads.Lead.{Lead}
 use Rattle.reverse_flood.specs.Flood.{net_of, everywhere}
 use Rattle.reverse_flood.specs.Leads.{nodes_of, AreLeads}
