@@ -11,5 +11,6 @@ pub mod Rotating
 pub mod SealedSlots
 pub mod Settling
 pub mod SlotWith
+pub mod Sought
 pub mod Tells
 pub mod WholeWords

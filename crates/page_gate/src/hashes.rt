@@ -1,5 +1,5 @@
 // The hash functions of a page, which a recorder keeps for its next record in the same page.
-ghost use Rattle.std.specs.Prelude.{◌≡◌, ◌↔◌, IsTrue};
+ghost use Rattle.std.specs.Prelude.{◌≡◌, ◌↔◌, IsTrue, IsSomeAnd, true};
 ghost use Rattle.hash_family.specs.Positions.{family_of};
 ghost use Rattle.page_gate.specs.Placed.{AreMarks};
 ghost use Rattle.spie_base.specs.Shapes.{IsShape};
@@ -35,6 +35,7 @@ impl PageHashes {
         self.page == page && self.shape == *shape
     }
 
+    #[inline(always)]
     fn marks(&self, sig: &Sig) -> Marks
         requires { IsShape self.now.shape }
         ensures value { AreMarks self.now.shape self.now.page.number sig.now result }
@@ -44,21 +45,30 @@ impl PageHashes {
     }
 }
 
-// The same of a page whose hash functions are not kept yet. It is apart, so that a record in the same page pays nothing
-// for it.
-fn marks_anew(kept: &mut Option<PageHashes>, shape: &PageShape, page: PageNo, sig: &Sig) -> Marks
-    requires { IsShape shape.now }
-    ensures value { AreMarks shape.now page.number sig.now result }
-    ensures count { result.count ≡ shape.now.k }
+// Whether the hash functions of a page are kept.
+fn are_kept(kept: &Option<PageHashes>, shape: &PageShape, page: PageNo) -> bool
+    ensures { (result ≡ true) → IsSomeAnd kept.now (λ hashes. (hashes.shape ≡ shape.now) × (hashes.page ≡ page)) }
 {
-    let hashes = PageHashes::of(shape, page);
-    let marks = hashes.marks(sig);
-    *kept = Some(hashes);
-    marks
+    match kept {
+        Some(hashes) => hashes.are_of(shape, page),
+        None => false,
+    }
+}
+
+// It is apart, so that a record in the same page pays nothing for it.
+#[cold]
+#[inline(never)]
+fn keep_page(kept: &mut Option<PageHashes>, shape: &PageShape, page: PageNo)
+    requires { IsShape shape.now }
+    ensures { IsSomeAnd kept.new (λ hashes. (hashes.shape ≡ shape.now) × (hashes.page ≡ page)) }
+{
+    *kept = Some(PageHashes::of(shape, page));
 }
 
 /// The marks of a signature in a page. Costs k positions, and 8·k words of the generator more where `kept` is of
 /// another page; then it becomes this one's.
+// Inlined, since a copy of marks that were just written, as to a caller, waits for them.
+#[inline(always)]
 pub(crate) fn marks_in(
     kept: &mut Option<PageHashes>,
     shape: &PageShape,
@@ -69,8 +79,11 @@ pub(crate) fn marks_in(
     ensures value { AreMarks shape.now page.number sig.now result }
     ensures count { result.count ≡ shape.now.k }
 {
+    if !are_kept(kept, shape, page) {
+        keep_page(kept, shape, page);
+    }
     match &*kept {
-        Some(hashes) if hashes.are_of(shape, page) => hashes.marks(sig),
-        _ => marks_anew(kept, shape, page, sig),
+        Some(hashes) => hashes.marks(sig),
+        None => unreachable!(),
     }
 }

@@ -1,6 +1,7 @@
 // Who deals and gathers, and turns the pages.
 ghost use Rattle.std.specs.Prelude.{◌≡◌, ◌+◌, ◌<◌, ◌≤◌, ◌↔◌, ℕ, true, IsTrue, IsNone, IfSome};
 ghost use Rattle.page_gate.specs.Slots.{HasOpen, IsWaiting, is_waiting, open_page, free_count};
+ghost use Rattle.gate_core.specs.Acts.{open_slot};
 ghost use Rattle.gate_core.specs.Invariant.{HasPage};
 ghost use Rattle.page_gate.specs.Pages.{phase_with};
 
@@ -74,6 +75,14 @@ impl Keeper {
         PageNo {
             number: self.slots[usize::from(open_slot(&self.slots))].page,
         }
+    }
+
+    /// Where a page is open, the keeper last pointed at its slot. So passes that are dealt then have it as their floor.
+    pub fn points(&self)
+        requires open { HasOpen self.now.view.duties }
+        ensures { self.now.view.duties.pointed ≡ open_slot self.now.view.duties }
+    {
+        let _ = &self.seat;
     }
 
     /// Where a page is in its life: open, sealed or quiet; free where it stands in no slot.

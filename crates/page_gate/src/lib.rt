@@ -4,7 +4,7 @@
 //!
 //! A `Plane` is the words of a router: the current slot, four gates, and the bit words of four slots, each slot a Bloom
 //! filter for one page. Threads share it by reference. Its rule is `gate_core`'s plane invariant, which holds between
-//! any two operations of any threads, and each operation is one act of `gate_core` on one word.
+//! any two operations of any threads, and each operation that changes a word is one act of `gate_core` on that word.
 //!
 //! # Recording
 //!
@@ -66,6 +66,7 @@ mod record;
 mod rotate;
 mod seal;
 mod seats;
+mod seek;
 mod settle;
 mod slots;
 mod steps;

@@ -55,8 +55,17 @@ impl Words {
         self.leave_as::<Brand>(seat, slot);
     }
 
-    // Sets the mark number `i`, which is `mark`.
-    fn set(&self, seat: &mut Seat<(), View>, slot: u8, page: PageNo, sig: &Sig, i: u8, mark: u32)
+    // Sets the mark number `i`, which is `mark`. Where it `seeks`, it looks first whether the bit is set.
+    fn set(
+        &self,
+        seat: &mut Seat<(), View>,
+        slot: u8,
+        page: PageNo,
+        sig: &Sig,
+        i: u8,
+        mark: u32,
+        seeks: bool,
+    )
         requires table { seat.old.table_id ≡ self.now.table.shared.table_id }
         requires inside { (seat.old.me.0.state ≡ Inside slot page sig.now i) × (i < self.now.shape.k)
             × (slot < SLOTS) × ¬ (seat.old.me.0.role ≡ Spent) }
@@ -65,7 +74,8 @@ impl Words {
     {
         let (_page, _i) = (page, i);
         let _sig = sig;
-        self.set_as::<Brand>(seat, bits_at(&self.shape, slot, mark / 64), bit_of(mark));
+        let word = bits_at(&self.shape, slot, mark / 64);
+        self.set_bit(seat, word, bit_of(mark), seeks);
     }
 
     fn set_all(
@@ -75,6 +85,7 @@ impl Words {
         slot: u8,
         page: PageNo,
         sig: &Sig,
+        seeks: bool,
     )
         requires table { seat.old.table_id ≡ self.now.table.shared.table_id }
         requires inside { (seat.old.me.0.state ≡ Inside slot page sig.now 0)
@@ -83,7 +94,7 @@ impl Words {
     {
         let marks = marks_in(kept, &self.shape, page, sig);
         for i in 0..self.shape.k {
-            self.set(seat, slot, page, sig, i, marks.at[usize::from(i)]);
+            self.set(seat, slot, page, sig, i, marks.at[usize::from(i)], seeks);
         }
     }
 
@@ -95,6 +106,7 @@ impl Words {
         slot: u8,
         page: PageNo,
         sig: &Sig,
+        seeks: bool,
     )
         requires table { seat.old.table_id ≡ self.now.table.shared.table_id }
         requires inside { (seat.old.me.0.state ≡ Inside slot page sig.now 0)
@@ -102,7 +114,7 @@ impl Words {
         ensures recorded { RecordedIn page sig.now seat.old seat.new }
         ensures met { IsMet self.now.shape seat.new.me.0 }
     {
-        self.set_all(seat, kept, slot, page, sig);
+        self.set_all(seat, kept, slot, page, sig, seeks);
         self.leave(seat, slot);
     }
 
@@ -125,12 +137,13 @@ impl Words {
             Tried::Sealed { gate }
         } else {
             let page = page(gate);
-            self.finish(seat, kept, slot, page, sig);
+            self.finish(seat, kept, slot, page, sig, false);
             Tried::Entered(page)
         }
     }
 
-    // The same of the keeper, where the slot at which it pointed is open: then the gate is not sealed.
+    // The same of the keeper, where the slot at which it pointed is open: then the gate is not sealed. It is meant for a keeper
+    // with no pass out, which has seen most of its marks before: it looks for each bit before it sets it.
     pub(crate) fn record_in_open(
         &self,
         seat: &mut Seat<(), View>,
@@ -146,7 +159,7 @@ impl Words {
     {
         let slot = self.look(seat);
         let page = page(self.enter(seat, slot, sig));
-        self.finish(seat, kept, slot, page, sig);
+        self.finish(seat, kept, slot, page, sig, true);
         page
     }
 }

@@ -30,7 +30,8 @@ impl Plane {
         tried
     }
 
-    /// The keeper's own record, in the open page, where no pass is out. Takes no memory. Costs what `try_record` does.
+    /// The keeper's own record, in the open page, where no pass is out. Takes no memory. Costs what `try_record` does, but for the
+    /// marks: each costs a load, and a fetch-or only where its bit is not set yet.
     pub fn record_alone(&self, keeper: &mut Keeper, sig: &Sig) -> PageNo
         requires plane { keeper.old.table ≡ self.now.table }
         requires alone { keeper.old.view.duties.out ≡ 0 }
