@@ -23,7 +23,7 @@ use Rattle.data_agent.specs.declared.finishing.Settled.{Settled}
 use Rattle.data_agent.specs.declared.outcome.Archived.{Archived}
 use Rattle.data_agent.specs.Calls.{number_of, split_by}
 use Rattle.data_agent.specs.Finishing.{FinishesTo, IsFinished, covered_all, finished_at, numbers_kept, numbers_put, pages_kept, pages_put, put_all, put_where, settled_all, settled_number, settled_page, was_kept, was_put}
-use Rattle.data_agent.specs.Standing.{AreNotes, HasNotes, IsBitsDigest, Stands, StandsWhole, noted_page, is_refused, put_page}
+use Rattle.data_agent.specs.Standing.{AreNotes, HasNotes, IsBitsDigest, Stands, StandsWhole, digest_of, noted_page, is_refused, is_stored, put_page}
 use Rattle.data_agent.proofs.Alike.{not_noted, stands_like}
 use Rattle.data_agent.proofs.Members.{is_in-append, is_in-none}
 use Rattle.data_agent.proofs.Puts.{rose_none, same_page, same_part}
@@ -168,8 +168,8 @@ put_stands : (rules : Rules) (l : Ledger) (u : Unfinished) (closings : List ℕ)
 put_stands rules l u closings notes settled x z page Rows n f t held true_bits has = f.stand t page has
 put_stands rules l u closings notes settled x z page Bits n f t held true_bits has =
     let a = l.account in
-    let done = from_map noted_page (filter (λ note. is_some note.bits) notes) page (f.done page has) in
-    let kept = from_filter (λ note. is_some note.bits) notes done.of done.has in
+    let done = from_map noted_page (filter is_stored notes) page (f.done page has) in
+    let kept = from_filter is_stored notes done.of done.has in
     let at = from_map put_page u.bits_put done.of.page.number ((n.each done.of kept.0).put kept.1) in
     let number : at.of.page ≡ page = at.is ∙ done.is in
     f.others t (name_of a.router page Bits) (λ q noted e. let parts : Bits ≡ Rows = same_part a.router a.router page q Bits Rows e in cc)
@@ -243,7 +243,7 @@ finished_none agent rules l u x s none =
 
 -- what a note of the agent says
 pub noted_needs : (agent : Agent) (rules : Rules) (l : Ledger) (u : Unfinished) (at : Option (List ℕ)) (notes : Vec Note Global) (note : Note) → Stands agent rules l → HasNotes rules l u at (Some notes) → Contains notes.items note
-    → (agent.catalogue.gone ≤ note.page.number) × (note.page.number < agent.page.number) × (is_in l.put_before note.page.number ≡ false) × IsBitsDigest rules l.account note.page.number note.bits
+    → (agent.catalogue.gone ≤ note.page.number) × (note.page.number < agent.page.number) × (is_in l.put_before note.page.number ≡ false) × IsBitsDigest rules l.account note.page.number (digest_of note.bits)
 noted_needs agent rules l u None notes note s h has = absurd h
 noted_needs agent rules l u (Some closings) notes note s h has =
     let covered = (h.covers note.page.number).0 (into_map noted_page notes.items note has) in

@@ -24,9 +24,9 @@ use Rattle.data_agent.specs.declared.archival.Note.{Note}
 use Rattle.data_agent.specs.declared.finishing.Settled.{Settled}
 use Rattle.data_agent.specs.Archiving.{HasClosed}
 use Rattle.data_agent.specs.Finishing.{FinishesOne, FinishesTo, IsSettled, HaveTrue, digests_with, was_put, was_kept, settled_number, numbers_done}
-use Rattle.data_agent.specs.Standing.{AreSpelled, Stands, IsBitsDigest, noted_page, is_refused}
+use Rattle.data_agent.specs.Standing.{AreSpelled, Stands, IsBitsDigest, digest_of, noted_page, is_deferred, is_refused, is_stored}
 use Rattle.data_agent.proofs.Kept.{rows_here}
-use Rattle.data_agent.proofs.Noting.{count_more}
+use Rattle.data_agent.proofs.Noting.{count_more, refused_few, refused_if}
 use Rattle.data_agent.proofs.Puts.{rose_then, rose_less, rose_none, put_still, put_rose, put_here, put_others, put_same, same_page}
 
 -- ---- one page
@@ -48,13 +48,13 @@ rows_put agent rules l page rows x z digest s from unput is put =
     subst (λ n. IsPut (name_of n page Rows) (spelled_rows (rows_record (record { number = n }) (record { number = page }) (rows_in l.account.rows page))) x z digest) s.pages.router
     (subst (λ rs. IsPut (name_of agent.router.number page Rows) (spelled_rows (rows_record agent.router (record { number = page }) rs)) x z digest) (is ∙ rows_here agent rules l page s from unput) put)
 
-pub finish_refused : (rules : Rules) (a : Account) (note : Note) (x : ShelfView) → note.bits ≡ None → FinishesOne rules a note (record { page = note.page; digests = None }) x x
-finish_refused rules a note x none = record {
+pub finish_refused : (rules : Rules) (a : Account) (note : Note) (x : ShelfView) → digest_of note.bits ≡ None → is_deferred note ≡ false → FinishesOne rules a note (record { page = note.page; digests = None }) x x
+finish_refused rules a note x none known = record {
   page = refl;
   settled = tt;
   done = λ e. absurd (false≢true e);
   still = refl;
-  rose = rose_less 0 (1 - count_if (is_refused note)) x.faults x.faults (let e : count_if (is_refused note) ≡ 1 = ap (λ (b : Option (List ℕ)). count_if (not (is_some b))) none in omega arith) (rose_none x.faults x.faults (omega arith));
+  rose = rose_less 0 (1 - count_if (is_refused note)) x.faults x.faults (let e : count_if (is_refused note) ≡ 1 = ap count_if (refused_if note.bits none known) in omega arith) (rose_none x.faults x.faults (omega arith));
   stands = λ t e. absurd (false≢true e);
   same = λ t e name. refl;
   others = λ t name apart. refl;
@@ -68,7 +68,7 @@ same_some : (bits : List ℕ) (rows : Option (List ℕ)) → is_some (digests_wi
 same_some bits None = refl
 same_some bits (Some d) = refl
 
-pub finish_with : (rules : Rules) (a : Account) (note : Note) (bits : List ℕ) (rows : Option (List ℕ)) (x z : ShelfView) → note.bits ≡ Some bits → IsBitsDigest rules a note.page.number note.bits
+pub finish_with : (rules : Rules) (a : Account) (note : Note) (bits : List ℕ) (rows : Option (List ℕ)) (x z : ShelfView) → digest_of note.bits ≡ Some bits → IsBitsDigest rules a note.page.number (digest_of note.bits)
     → IsPut (name_of a.router note.page.number Rows) (true_text rules a note.page.number Rows) x z rows → FinishesOne rules a note (record { page = note.page; digests = digests_with bits rows }) x z
 finish_with rules a note bits rows x z some is put =
     let name : ShelfName = name_of a.router note.page.number Rows in
@@ -129,7 +129,7 @@ again rules a note one y z page true is f t here was = subst (λ p. z.contents (
 again rules a note one y z page false is f t here was = f.same t is (name_of a.router page Rows) ∙ was
 
 refused_kept : (rules : Rules) (a : Account) (note : Note) (one : Settled) (x z : ShelfView) → FinishesOne rules a note one x z → count_if (is_refused note) ≤ count_if (was_kept one)
-refused_kept rules a note one x z f = both_ways (is_some note.bits) (is_some one.digests) f.done
+refused_kept rules a note one x z f = let few = refused_few note.bits in let ways = both_ways (is_stored note) (is_some one.digests) f.done in omega arith
 
 pub finishes_more : (rules : Rules) (a : Account) (notes : List Note) (settled : List Settled) (note : Note) (one : Settled) (x y z : ShelfView) → FinishesTo rules a notes settled x y → FinishesOne rules a note one y z
     → FinishesTo rules a (notes ++ note ∷ []) (settled ++ one ∷ []) x z
@@ -143,8 +143,8 @@ finishes_more rules a notes settled note one x y z s f =
       pages = map-append settled_number settled (one ∷ []) ∙ ap (λ ns. ns ++ one.page.number ∷ []) s.pages ∙ ap (λ n. map noted_page notes ++ n ∷ []) number_same ∙ sym (map-append noted_page notes (note ∷ []));
       each = λ other has. elim (Contains-push_cases settled one other has) [ inl old ↦ s.each other old | inr new ↦ subst (IsSettled rules a) new f.settled ];
       done = λ page has. elim (push_filter settled_number was_put settled one page has) [
-        | inl old ↦ filter_before noted_page (λ n. is_some n.bits) notes note page (s.done page old)
-        | inr (is, at) ↦ subst (Contains (numbers_done (notes ++ note ∷ []))) (sym number_same ∙ at) (filter_push noted_page (λ n. is_some n.bits) notes note (f.done is))
+        | inl old ↦ filter_before noted_page is_stored notes note page (s.done page old)
+        | inr (is, at) ↦ subst (Contains (numbers_done (notes ++ note ∷ []))) (sym number_same ∙ at) (filter_push noted_page is_stored notes note (f.done is))
       ];
       few = let few = s.few in omega arith;
       still = f.still ∙ s.still;

@@ -27,7 +27,7 @@ use Rattle.page_gate.specs.Held.{Held}
 use Rattle.spie_base.specs.Shapes.{shape_of}
 use Rattle.data_agent.proofs.Steps.{pages_with}
 use Rattle.data_agent.specs.Standing.{AreClosed, IsClosed, IsKeeping, Stands, standing}
-use Rattle.data_agent.proofs.Kept.{some_page}
+use Rattle.data_agent.specs.Archiving.{some_page}
 use Rattle.data_agent.proofs.Passing.{none_rise}
 use Rattle.data_agent.proofs.Puts.{rose_then, rose_none, same_page}
 use Rattle.data_agent.proofs.Rising.{rising_push}

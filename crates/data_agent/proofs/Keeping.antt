@@ -1,8 +1,7 @@
 -- What the agent's keeper has, as it records, settles, collects, opens and reads pages.
-use Rattle.std.proofs.Common.{ℕ, zero, suc, ◌≡◌, ◌≢◌, ◌≤◌, ◌<◌, ◌+◌, ◌^◌, ◌↔◌, ◌⊎◌, ◌∙◌, ◌∷◌, [], ◌++◌, List, length, get_or, count_by, cond, Bool, true, false, sym, ap, subst, refl, inl, inr, ⊎_elim, arith, length-set, set, Result, Ok, Err, OnOk, OnErr, IfOk, IsTrue}
+use Rattle.std.proofs.Common.{ℕ, zero, suc, ◌≡◌, ◌≤◌, ◌<◌, ◌+◌, ◌^◌, ◌↔◌, ◌∙◌, ◌∷◌, [], ◌++◌, List, length, get_or, Bool, true, false, sym, ap, subst, refl, arith, Result, Ok, Err, OnOk, OnErr, IfOk, IsTrue}
 use Rattle.std.specs.List.{Contains, range_with_len}
-use Rattle.std.proofs.lemmas.Bool.{cases_Bool, cases_eq, cases_lt, false≢true}
-use Rattle.std.proofs.lemmas.List.Sums.{sum_by-cons}
+use Rattle.std.proofs.lemmas.Bool.{false≢true}
 use Rattle.spie_base.specs.declared.Entry.{Entry}
 use Rattle.spie_base.specs.declared.PageNo.{PageNo}
 use Rattle.spie_base.specs.declared.PageShape.{PageShape}
@@ -14,33 +13,27 @@ use Rattle.hash_family.specs.Positions.{marks_of, position}
 use Rattle.hash_family.proofs.EntryFacts.{marked-from_test, test-from_marked}
 use Rattle.hash_family.proofs.PositionFacts.{get_or-marks_of, length-marks_of, marks_of-below}
 use Rattle.spie_base.proofs.Membership.{from_filter, into_filter}
-use Rattle.gate_core.specs.declared.states.SlotPhase.{SlotPhase}
-use Rattle.gate_core.specs.declared.states.SlotPhase.TheVariants.{Free, Open, Sealed, Quiet}
+use Rattle.gate_core.specs.declared.states.SlotPhase.TheVariants.{Sealed}
 use Rattle.gate_core.specs.declared.view.Duties.{Duties}
-use Rattle.gate_core.specs.declared.view.Role.TheVariants.{Keeper}
-use Rattle.gate_core.specs.declared.view.Slot.{Slot}
-use Rattle.gate_core.specs.declared.view.View.{View}
-use Rattle.gate_core.specs.Acts.{IsQuiet, in_phase, inside_of, open_slot, phased_slot}
+use Rattle.gate_core.specs.Acts.{IsQuiet}
 use Rattle.gate_core.specs.Invariant.{HasPage}
-use Rattle.gate_core.specs.Views.{first_keeper, no_slot, slot_at}
-use Rattle.gate_core.proofs.Readings.{met_fits}
-use Rattle.gate_core.proofs.Slots.{open_is, page_same, phase_case, slot_case, slot_else, slot_here}
+use Rattle.gate_core.specs.Views.{first_keeper}
 use Rattle.gate_core.proofs.Starts as starts
 use Rattle.page_gate.specs.Held.{Held, Home, recorded_held}
-use Rattle.page_gate.specs.Pages.{collected_held, collected_page, phase_with, slot_with}
+use Rattle.page_gate.specs.Pages.{collected_held, collected_page, phase_with}
 use Rattle.page_gate.specs.Probes.{HaveAllMarks, OnlyProbes, Probes, marked_set}
-use Rattle.page_gate.specs.Rotated.{free_slot, rotated_held}
+use Rattle.page_gate.specs.Rotated.{rotated_held}
 use Rattle.page_gate.specs.Settled.{SettledNow}
-use Rattle.page_gate.specs.Slots.{HasOpen, IsWaiting, StaysOpen, free_count, is_free, is_waiting, open_page}
+use Rattle.page_gate.specs.Slots.{HasOpen, IsWaiting, StaysOpen, free_count, open_page}
 use Rattle.page_gate.specs.Steps.{IsMet}
 use Rattle.page_gate.specs.declared.settle.Settled.{Settled}
 use Rattle.page_gate.specs.declared.settle.Settled.TheVariants as settled
-use Rattle.page_gate.proofs.KeptSlots.{open_found}
-use Rattle.page_gate.proofs.Rotating.{free_found}
-use Rattle.page_gate.proofs.Settling.{noting, quiet_is}
-use Rattle.page_gate.proofs.SlotWith.{found_there, page_with, told_waiting, waiting_found, waiting_stands}
+use Rattle.data_agent.specs.Beside.{IsMinding, KeepsWords}
+use Rattle.data_agent.specs.Members.{HaveSameMembers}
 use Rattle.data_agent.specs.Standing.{IsKeeping}
+use Rattle.data_agent.proofs.Minding.{collected_room, minded_collected, minded_probed, minded_settled, minded_stands, minded_turned, next_minded, some_waits, words_settled}
 use Rattle.data_agent.proofs.Results.{if_ok, on_ok, on_err_from}
+use Rattle.data_agent.proofs.SameMembers.{marked_members, members_from, members_more, same_members}
 
 -- ---- the start
 
@@ -58,7 +51,7 @@ pub kept_first : (shape : PageShape) (table : Home) → IsKeeping shape (record 
 kept_first shape table = record {
   role = refl;
   alone = refl;
-  has = refl;
+  has = same_members [] [] refl;
   fits = starts.slots shape;
   has_open = first_open;
   open_is = refl;
@@ -74,7 +67,8 @@ pub kept_recorded : (shape : PageShape) (k : Held) (entries : List Entry) (first
 kept_recorded shape k entries first last page sig s at = record {
   role = s.role;
   alone = s.alone;
-  has = ap (λ (es : List Entry). es ++ record { page = page; sig = sig } ∷ []) s.has ∙ ap (λ (n : ℕ). entries ++ record { page = record { number = n }; sig = sig } ∷ []) at;
+  has = subst (λ (n : ℕ). HaveSameMembers (recorded_held k page sig).view.entries (entries ++ record { page = record { number = n }; sig = sig } ∷ [])) at
+      (members_more k.view.entries entries (record { page = page; sig = sig } ∷ []) s.has);
   fits = s.fits;
   has_open = s.has_open;
   open_is = s.open_is;
@@ -83,226 +77,55 @@ kept_recorded shape k entries first last page sig s at = record {
   only = s.only;
 }
 
--- ---- counts of slots
+-- ---- what the keeper minds
 
-count_none : (p : Slot → Bool) (xs : List Slot) (i : ℕ) (x : Slot) → count_by p xs ≡ 0 → i < length xs → p (get_or xs i x) ≡ false
-count_none p [] i x none lt = absurd (omega arith)
-count_none p (y ∷ xs) zero x none lt = ⊎_elim
-    (λ e. let c : count_by p (y ∷ xs) ≡ 1 + count_by p xs = sum_by-cons (λ (z : Slot). cond (p z) 1 0) y xs ∙ ap (λ (b : Bool). cond b 1 0 + count_by p xs) e in absurd (omega arith))
-    (λ e. e)
-    (cases_Bool (p y))
-count_none p (y ∷ xs) (suc i) x none lt =
-    let c : count_by p (y ∷ xs) ≡ cond (p y) 1 0 + count_by p xs = sum_by-cons (λ (z : Slot). cond (p z) 1 0) y xs in
-    count_none p xs i x (omega arith) (omega arith)
+pub minding_of : (shape : PageShape) (k : Held) (entries : List Entry) (first last : ℕ) → IsKeeping shape k entries first last → IsMinding shape k first last
+minding_of shape k entries first last s = record { role = s.role; fits = s.fits; has_open = s.has_open; open_is = s.open_is; order = s.order; stand = s.stand; only = s.only }
 
-count_some : (p : Slot → Bool) (xs : List Slot) (i : ℕ) (x : Slot) → i < length xs → p (get_or xs i x) ≡ true → 1 ≤ count_by p xs
-count_some p [] i x lt is = absurd (omega arith)
-count_some p (y ∷ xs) zero x lt is =
-    let c : count_by p (y ∷ xs) ≡ 1 + count_by p xs = sum_by-cons (λ (z : Slot). cond (p z) 1 0) y xs ∙ ap (λ (b : Bool). cond b 1 0 + count_by p xs) is in omega arith
-count_some p (y ∷ xs) (suc i) x lt is =
-    let c : count_by p (y ∷ xs) ≡ cond (p y) 1 0 + count_by p xs = sum_by-cons (λ (z : Slot). cond (p z) 1 0) y xs in
-    let more : 1 ≤ count_by p xs = count_some p xs i x (omega arith) is in
-    omega arith
-
-closed_waits : (ph : SlotPhase) → is_free ph ≡ false → ¬ (ph ≡ Open) → is_waiting ph ≡ true
-closed_waits Free e n = cc
-closed_waits Open e n = absurd (n refl)
-closed_waits Sealed e n = refl
-closed_waits (Quiet next) e n = refl
-
-quiet_or_sealed : (ph : SlotPhase) → is_waiting ph ≡ true → (ph ≡ Sealed) ⊎ IsQuiet ph
-quiet_or_sealed Free w = cc
-quiet_or_sealed Open w = cc
-quiet_or_sealed Sealed w = inl refl
-quiet_or_sealed (Quiet next) w = inr tt
-
-quiet_waits : (ph : SlotPhase) → IsQuiet ph → is_waiting ph ≡ true
-quiet_waits Free q = absurd q
-quiet_waits Open q = absurd q
-quiet_waits Sealed q = absurd q
-quiet_waits (Quiet next) q = refl
-
-free_waits_not : (ph : SlotPhase) → ph ≡ Free → is_waiting ph ≡ true → ⊥
-free_waits_not ph e w = let f : is_waiting Free ≡ true = subst (λ (x : SlotPhase). is_waiting x ≡ true) e w in cc
-
-open_waits_not : (ph : SlotPhase) → ph ≡ Open → is_waiting ph ≡ true → ⊥
-open_waits_not ph e w = let f : is_waiting Open ≡ true = subst (λ (x : SlotPhase). is_waiting x ≡ true) e w in cc
-
-open_not_free : (ph : SlotPhase) → ph ≡ Open → ph ≡ Free → ⊥
-open_not_free ph e f = let g : Open ≡ Free = sym e ∙ f in cc
-
--- a slot that is not this one
-other_slot : (o : ℕ) → (t : ℕ) × (t < 4) × (t ≢ o)
-other_slot zero = (1, (let g : 1 < 4 = omega arith in g), λ e. omega arith)
-other_slot (suc n) = (0, (let g : 0 < 4 = omega arith in g), λ e. omega arith)
-
--- ---- where pages stand
+-- a keeper that keeps its entries, and beside which no pass is out
+keeping_of : (shape : PageShape) (k k2 : Held) (entries : List Entry) (first last first' last' : ℕ) → IsKeeping shape k entries first last → k2.view.entries ≡ k.view.entries → k2.view.duties.out ≡ k.view.duties.out
+    → IsMinding shape k2 first' last' → IsKeeping shape k2 entries first' last'
+keeping_of shape k k2 entries first last first' last' s same out m = record {
+  role = m.role;
+  alone = out ∙ s.alone;
+  has = members_from k2.view.entries k.view.entries entries same s.has;
+  fits = m.fits;
+  has_open = m.has_open;
+  open_is = m.open_is;
+  order = m.order;
+  stand = m.stand;
+  only = m.only;
+}
 
 module _ (shape : PageShape) (k : Held) (entries : List Entry) (first last : ℕ) (s : IsKeeping shape k entries first last) where
-  abbrev d : Duties
-  d = k.view.duties
+  pub stands_in : (page : ℕ) → first ≤ page → page ≤ last → HasPage (phase_with k.view.duties page)
+  stands_in = minded_stands shape k first last (minding_of shape k entries first last s)
 
-  open_phase : (slot_at d (open_slot d)).phase ≡ Open
-  open_phase = open_is d s.fits.four s.has_open
-
-  pub stands_in : (page : ℕ) → first ≤ page → page ≤ last → HasPage (phase_with d page)
-  stands_in page from to = elim (cases_lt page last) [
-    | inl before ↦ waiting_stands (phase_with d page) (waiting_found shape d page s.fits (s.stand page from before)).1
-    | inr behind ↦
-        let o : ℕ = open_slot d in
-        let stands : HasPage (slot_at d o).phase = subst HasPage (sym open_phase) tt in
-        let here : (slot_at d o).page ≡ page = s.open_is ∙ (let e : last ≡ page = omega arith in e) in
-        subst (λ (n : ℕ). HasPage (slot_at d n).phase) (sym (found_there shape d page o s.fits s.has_open stands here)) stands
-  ]
-
-  pub next_is : d.next ≡ last + 1
-  next_is = sym (s.fits.open_last (open_slot d) s.has_open open_phase) ∙ ap (λ (n : ℕ). n + 1) s.open_is
+  pub next_is : k.view.duties.next ≡ last + 1
+  next_is = next_minded shape k first last (minding_of shape k entries first last s)
 
   -- where no slot is free, a page is closed
-  pub some_stand : free_count d ≡ 0 → first < last
-  some_stand none =
-      let (t, near, apart) = other_slot (open_slot d) in
-      let four = s.fits.four in
-      let taken : is_free (slot_at d t).phase ≡ false = count_none (λ (x : Slot). is_free x.phase) d.slots t no_slot none (omega arith) in
-      let shut : ¬ ((slot_at d t).phase ≡ Open) = λ e. apart (sym (open_found shape d t s.fits near e)) in
-      let found = s.only (slot_at d t).page (t, near, closed_waits (slot_at d t).phase taken shut, refl) in
-      let a = found.0 in
-      let b = found.1 in
-      omega arith
+  pub some_stand : free_count k.view.duties ≡ 0 → first < last
+  some_stand = some_waits shape k first last (minding_of shape k entries first last s)
 
 -- ---- a page is settled
 
-pub kept_settled : (shape : PageShape) (k k2 : Held) (entries : List Entry) (first last page : ℕ) (t : Settled) → IsKeeping shape k entries first last → first ≤ page → page < last
-    → (IsQuiet (phase_with k.view.duties page) → (t ≡ settled.Quiet) × (k2 ≡ k))
-    → (phase_with k.view.duties page ≡ Sealed → SettledNow k k2 page t × IsMet shape k2.view)
-    → StaysOpen k.view.duties k2.view.duties → IsKeeping shape k2 entries first last
-kept_settled shape k k2 entries first last page t s from to before now stays =
-    let d = k.view.duties in
-    let sl : ℕ = slot_with d page in
-    let found = waiting_found shape d page s.fits (s.stand page from to) in
-    elim (quiet_or_sealed (phase_with d page) found.1) [
-      | inr quiet ↦ subst (λ (h : Held). IsKeeping shape h entries first last) (sym (before quiet).1) s
-      | inl sealed ↦
-          let (n, met) = now sealed in
-          let gate : ℕ = k2.view.duties.noted in
-          let out = s.alone in
-          let few = n.few in
-          let zero : inside_of gate ≡ 0 = omega arith in
-          let view : k2.view ≡ record k.view { duties = in_phase (noting k.view sl gate) sl (Quiet 0) } = ap (λ (h : Held). h.view) n.keeper ∙ quiet_is k.view sl gate zero in
-          let slots : k2.view.duties.slots ≡ (in_phase d sl (Quiet 0)).slots = ap (λ (u : View). u.duties.slots) view in
-          let role : k2.view.role ≡ Keeper = ap (λ (u : View). u.role) view ∙ s.role in
-          let four = s.fits.four in
-          let within : sl < length d.slots = let low = found.0 in omega arith in
-          let page_is : (j : ℕ) → (slot_at k2.view.duties j).page ≡ (slot_at d j).page = λ j. ap (λ (xs : List Slot). (get_or xs j no_slot).page) slots ∙ page_same d sl (Quiet 0) within j in
-          let later : (j : ℕ) → is_waiting (slot_at d j).phase ≡ true → is_waiting (slot_at k2.view.duties j).phase ≡ true = λ j.
-          subst (λ (xs : List Slot). is_waiting (slot_at d j).phase ≡ true → is_waiting (get_or xs j no_slot).phase ≡ true) (sym slots)
-          (phase_case d sl (Quiet 0) within (λ i y. is_waiting (slot_at d i).phase ≡ true → is_waiting y ≡ true) (λ w. refl) (λ i ne w. w) j) in
-          let sooner : (j : ℕ) → is_waiting (slot_at k2.view.duties j).phase ≡ true → is_waiting (slot_at d j).phase ≡ true = λ j.
-          subst (λ (xs : List Slot). is_waiting (get_or xs j no_slot).phase ≡ true → is_waiting (slot_at d j).phase ≡ true) (sym slots)
-          (phase_case d sl (Quiet 0) within (λ i y. is_waiting y ≡ true → is_waiting (slot_at d i).phase ≡ true) (λ w. found.1) (λ i ne w. w) j) in
-          record {
-            role = role;
-            alone = ap (λ (u : View). u.duties.out) view ∙ s.alone;
-            has = ap (λ (u : View). u.entries) view ∙ s.has;
-            fits = (met_fits shape k2.view role met.0 met.1 met.2).slots;
-            has_open = (stays s.has_open).0;
-            open_is = (stays s.has_open).1 ∙ s.open_is;
-            order = s.order;
-            stand = λ p low high. let (j, near, w, is) = s.stand p low high in (j, near, later j w, page_is j ∙ is);
-            only = λ p (j, near, w, is). s.only p (j, near, sooner j w, sym (page_is j) ∙ is);
-          }
-    ]
+module _ (shape : PageShape) (k k2 : Held) (entries : List Entry) (first last page : ℕ) (t : Settled) (s : IsKeeping shape k entries first last) (from : first ≤ page) (to : page < last)
+    (before : IsQuiet (phase_with k.view.duties page) → (t ≡ settled.Quiet) × (k2 ≡ k)) (now : phase_with k.view.duties page ≡ Sealed → SettledNow k k2 page t × IsMet shape k2.view) where
+  settled_knows : KeepsWords shape k k2
+  settled_knows = words_settled shape k k2 page t before now first last from to (minding_of shape k entries first last s)
 
-pub settled_table : (shape : PageShape) (k k2 : Held) (entries : List Entry) (first last page : ℕ) (t : Settled) → IsKeeping shape k entries first last → first ≤ page → page < last
-    → (IsQuiet (phase_with k.view.duties page) → (t ≡ settled.Quiet) × (k2 ≡ k))
-    → (phase_with k.view.duties page ≡ Sealed → SettledNow k k2 page t × IsMet shape k2.view) → k2.table ≡ k.table
-settled_table shape k k2 entries first last page t s from to before now =
-    let found = waiting_found shape k.view.duties page s.fits (s.stand page from to) in
-    elim (quiet_or_sealed (phase_with k.view.duties page) found.1) [
-      | inr quiet ↦ ap (λ (h : Held). h.table) (before quiet).1
-      | inl sealed ↦ ap (λ (h : Held). h.table) (now sealed).0.keeper
-    ]
+  pub kept_settled : StaysOpen k.view.duties k2.view.duties → IsKeeping shape k2 entries first last
+  kept_settled stays = keeping_of shape k k2 entries first last first last s settled_knows.entries settled_knows.out
+      (minded_settled shape k k2 page t before now first last from to stays (minding_of shape k entries first last s))
+
+  pub settled_table : k2.table ≡ k.table
+  settled_table = settled_knows.table
+
+  pub settled_entries : k2.view.entries ≡ k.view.entries
+  settled_entries = settled_knows.entries
 
 -- ---- a page is collected
-
-module _ (shape : PageShape) (k k2 : Held) (entries : List Entry) (first last : ℕ) (words : List ℕ) (s : IsKeeping shape k entries first last) (quiet : IsQuiet (phase_with k.view.duties first)) (is_after : k2 ≡ collected_held k first words) where
-  abbrev before : Duties
-  before = k.view.duties
-
-  abbrev after : Duties
-  after = k2.view.duties
-
-  abbrev slot : ℕ
-  slot = slot_with before first
-
-  here : (slot < length before.slots) × ((slot_at before slot).page ≡ first)
-  here = page_with before first (waiting_stands (phase_with before first) (quiet_waits (phase_with before first) quiet))
-
-  slots_are : after.slots ≡ (in_phase before slot Free).slots
-  slots_are = ap (λ (h : Held). h.view.duties.slots) is_after
-
-  page_is : (j : ℕ) → (slot_at after j).page ≡ (slot_at before j).page
-  page_is j = ap (λ (xs : List Slot). (get_or xs j no_slot).page) slots_are ∙ page_same before slot Free here.0 j
-
-  sooner : (j : ℕ) → is_waiting (slot_at after j).phase ≡ true → (is_waiting (slot_at before j).phase ≡ true) × (j ≢ slot)
-  sooner j = subst (λ (xs : List Slot). is_waiting (get_or xs j no_slot).phase ≡ true → (is_waiting (slot_at before j).phase ≡ true) × (j ≢ slot)) (sym slots_are)
-      (phase_case before slot Free here.0 (λ i y. is_waiting y ≡ true → (is_waiting (slot_at before i).phase ≡ true) × (i ≢ slot)) (λ w. absurd (free_waits_not Free refl w)) (λ i ne w. (w, ne)) j)
-
-  later : (j : ℕ) → j ≢ slot → is_waiting (slot_at before j).phase ≡ true → is_waiting (slot_at after j).phase ≡ true
-  later j = subst (λ (xs : List Slot). j ≢ slot → is_waiting (slot_at before j).phase ≡ true → is_waiting (get_or xs j no_slot).phase ≡ true) (sym slots_are)
-      (phase_case before slot Free here.0 (λ i y. i ≢ slot → is_waiting (slot_at before i).phase ≡ true → is_waiting y ≡ true) (λ ne w. absurd (ne refl)) (λ i ne apart w. w) j)
-
-  slot_near : slot < 4
-  slot_near = let four = s.fits.four in let lt = here.0 in omega arith
-
-  -- the collected page stands in no other slot
-  gone : (j page : ℕ) → j < 4 → is_waiting (slot_at before j).phase ≡ true → j ≢ slot → (slot_at before j).page ≡ page → page ≢ first
-  gone j page near w apart is same =
-      let stands_here = waiting_stands (slot_at before slot).phase (quiet_waits (phase_with before first) quiet) in
-      let stands_there = waiting_stands (slot_at before j).phase w in
-      apart (s.fits.used_apart j slot near slot_near (s.fits.stands_used j near stands_there) (s.fits.stands_used slot slot_near stands_here) (is ∙ same ∙ sym here.1))
-
-  still_stand : (page : ℕ) → first + 1 ≤ page → page < last → IsWaiting after page
-  still_stand page low high =
-      let (j, near, w, is) = s.stand page (omega arith) high in
-      let apart : j ≢ slot = λ e. let same : page ≡ first = sym is ∙ ap (λ (n : ℕ). (slot_at before n).page) e ∙ here.1 in omega arith in
-      (j, near, later j apart w, page_is j ∙ is)
-
-  only_later : (page : ℕ) → IsWaiting after page → (first + 1 ≤ page) × (page < last)
-  only_later page (j, near, w, is) =
-      let old = sooner j w in
-      let at : (slot_at before j).page ≡ page = sym (page_is j) ∙ is in
-      let found = s.only page (j, near, old.0, at) in
-      let apart : page ≢ first = gone j page near old.0 old.1 at in (
-        elim (cases_eq page first) [
-          | inl same ↦ absurd (apart same)
-          | inr differs ↦ (let a = found.0 in let b : first + 1 ≤ page = omega arith in b)
-        ],
-        found.1,
-      )
-
-  pub kept_collected : IsMet shape k2.view → StaysOpen before after → first < last → IsKeeping shape k2 entries (first + 1) last
-  kept_collected met stays lt =
-      let role : k2.view.role ≡ Keeper = ap (λ (h : Held). h.view.role) is_after ∙ s.role in
-      record {
-        role = role;
-        alone = ap (λ (h : Held). h.view.duties.out) is_after ∙ s.alone;
-        has = ap (λ (h : Held). h.view.entries) is_after ∙ s.has;
-        fits = (met_fits shape k2.view role met.0 met.1 met.2).slots;
-        has_open = (stays s.has_open).0;
-        open_is = (stays s.has_open).1 ∙ s.open_is;
-        order = omega arith;
-        stand = still_stand;
-        only = only_later;
-      }
-
-  -- and its slot is free
-  pub some_free : 1 ≤ free_count after
-  some_free =
-      let phase : (slot_at after slot).phase ≡ Free = subst (λ (xs : List Slot). (get_or xs slot no_slot).phase ≡ Free) (sym slots_are) (ap (λ (x : Slot). x.phase) (slot_here before slot (phased_slot before slot Free) here.0)) in
-      let len : length after.slots ≡ length before.slots = ap length slots_are ∙ length-set before.slots slot (phased_slot before slot Free) in
-      let lt = here.0 in
-      count_some (λ (x : Slot). is_free x.phase) after.slots slot no_slot (omega arith) (ap is_free phase)
 
 -- in the forms in which `collect` tells it
 
@@ -318,20 +141,19 @@ pub collected_bits : {E : Type 0} (shape : PageShape) (result : Result PageSet E
     → IfOk result (λ p. k2.view.duties.out ≡ 0 → p ≡ marked_set shape k2.view.entries page)
     → IfOk result (λ p. (entries : List Entry) (last : ℕ) → IsKeeping shape k entries page last → p ≡ marked_set shape entries page)
 collected_bits shape (Ok p) k k2 page words is alone = λ entries last s.
-    alone (ap (λ (h : Held). h.view.duties.out) is ∙ s.alone) ∙ ap (λ (es : List Entry). marked_set shape es page) (ap (λ (h : Held). h.view.entries) is ∙ s.has)
+    alone (ap (λ (h : Held). h.view.duties.out) is ∙ s.alone) ∙ marked_members shape k2.view.entries entries page (members_from k2.view.entries k.view.entries entries (ap (λ (h : Held). h.view.entries) is) s.has)
 collected_bits shape (Err e) k k2 page words is alone = tt
 
 pub collected_free : {E : Type 0} (shape : PageShape) (result : Result PageSet E) (k k2 : Held) (page : ℕ) (words : List ℕ) → OnOk result (k2 ≡ collected_held k page words) → IsQuiet (phase_with k.view.duties page)
     → ((entries : List Entry) × (last : ℕ) × IsKeeping shape k entries page last) → OnOk result (1 ≤ free_count k2.view.duties)
-collected_free shape (Ok p) k k2 page words is quiet (entries, last, s) = some_free shape k k2 entries page last words s quiet is
-collected_free shape (Err e) k k2 page words is quiet stands = tt
+collected_free shape result k k2 page words is quiet (entries, last, s) = collected_room shape result k k2 page words quiet (last, minding_of shape k entries page last s) is
 
 pub collected_kept : {E : Type 0} (shape : PageShape) (result : Result PageSet E) (k k2 : Held) (page : ℕ) (words : List ℕ) → OnOk result (k2 ≡ collected_held k page words) → IsQuiet (phase_with k.view.duties page)
     → OnOk result (IsMet shape k2.view) → OnOk result (StaysOpen k.view.duties k2.view.duties)
     → OnOk result ((entries : List Entry) (last : ℕ) → IsKeeping shape k entries page last → IsKeeping shape k2 entries (page + 1) last)
 collected_kept shape (Ok p) k k2 page words is quiet met stays = λ entries last s.
-    let waits : IsWaiting k.view.duties page = told_waiting k.view.duties page s.fits.four (quiet_waits (phase_with k.view.duties page) quiet) in
-    kept_collected shape k k2 entries page last words s quiet is met stays (s.only page waits).1
+    keeping_of shape k k2 entries page last (page + 1) last s (ap (λ (h : Held). h.view.entries) is) (ap (λ (h : Held). h.view.duties.out) is)
+    (minded_collected shape k k2 page last words (minding_of shape k entries page last s) quiet is met stays)
 collected_kept shape (Err e) k k2 page words is quiet met stays = tt
 
 -- the same behind a settle
@@ -352,108 +174,18 @@ module _ {E : Type 0} (shape : PageShape) (result : Result PageSet E) (k k1 : He
 
 -- ---- the open page is closed
 
-module _ (shape : PageShape) (k k2 : Held) (entries : List Entry) (first last : ℕ) (s : IsKeeping shape k entries first last) (some : 1 ≤ free_count k.view.duties) (is_after : k2 ≡ rotated_held k) where
-  abbrev from : Duties
-  from = k.view.duties
-
-  abbrev sealed : Duties
-  sealed = in_phase from (open_slot from) Sealed
-
-  abbrev opened : Slot
-  opened = record { phase = Open; page = from.next; used = true }
-
-  o_near : open_slot from < length from.slots
-  o_near = let four = s.fits.four in let low = s.has_open in omega arith
-
-  free : (free_slot from < 4) × ((slot_at from (free_slot from)).phase ≡ Free)
-  free = free_found from s.fits.four some
-
-  to_near : free_slot from < length sealed.slots
-  to_near = let four = s.fits.four in let len : length sealed.slots ≡ length from.slots = length-set from.slots (open_slot from) (phased_slot from (open_slot from) Sealed) in let lt = free.0 in omega arith
-
-  then_slots : k2.view.duties.slots ≡ set sealed.slots (free_slot from) opened
-  then_slots = ap (λ (h : Held). h.view.duties.slots) is_after
-
-  -- of each slot but that which was free the page and whether it is closed are known
-  closed_then : (j : ℕ) → is_waiting (slot_at k2.view.duties j).phase ≡ true → ((j ≡ open_slot from) ⊎ (is_waiting (slot_at from j).phase ≡ true)) × ((slot_at k2.view.duties j).page ≡ (slot_at from j).page)
-  closed_then j w =
-      let cases : (is_waiting (slot_at sealed j).phase ≡ true) × ((slot_at k2.view.duties j).page ≡ (slot_at sealed j).page) =
-      subst (λ (xs : List Slot). is_waiting (get_or xs j no_slot).phase ≡ true → (is_waiting (slot_at sealed j).phase ≡ true) × ((get_or xs j no_slot).page ≡ (slot_at sealed j).page)) (sym then_slots)
-      (slot_case sealed (free_slot from) opened to_near (λ i y. is_waiting y.phase ≡ true → (is_waiting (slot_at sealed i).phase ≡ true) × (y.page ≡ (slot_at sealed i).page)) (λ h. absurd (open_waits_not Open refl h)) (λ i ne h. (h, refl)) j) w in (
-        phase_case from (open_slot from) Sealed o_near (λ i y. is_waiting y ≡ true → (i ≡ open_slot from) ⊎ (is_waiting (slot_at from i).phase ≡ true)) (λ h. inl refl) (λ i ne h. inr h) j cases.0,
-        cases.1 ∙ page_same from (open_slot from) Sealed o_near j,
-      )
-
-  stays_closed : (j : ℕ) → j ≢ free_slot from → (j ≡ open_slot from) ⊎ (is_waiting (slot_at from j).phase ≡ true) → (is_waiting (slot_at k2.view.duties j).phase ≡ true) × ((slot_at k2.view.duties j).page ≡ (slot_at from j).page)
-  stays_closed j apart which =
-      let same : slot_at k2.view.duties j ≡ slot_at sealed j = ap (λ (xs : List Slot). get_or xs j no_slot) then_slots ∙ slot_else sealed (free_slot from) opened to_near j apart in
-      let closed : is_waiting (slot_at sealed j).phase ≡ true =
-      phase_case from (open_slot from) Sealed o_near (λ i y. (i ≡ open_slot from) ⊎ (is_waiting (slot_at from i).phase ≡ true) → is_waiting y ≡ true) (λ h. refl) (λ i ne h. ⊎_elim (λ e. absurd (ne e)) (λ x. x) h) j which in
-      (ap (λ (x : Slot). is_waiting x.phase) same ∙ closed, ap (λ (x : Slot). x.page) same ∙ page_same from (open_slot from) Sealed o_near j)
-
-  o_apart : open_slot from ≢ free_slot from
-  o_apart e = open_not_free (slot_at from (open_slot from)).phase (open_is from s.fits.four s.has_open) (subst (λ (n : ℕ). (slot_at from n).phase ≡ Free) (sym e) free.1)
-
-  stand_then : (page : ℕ) → first ≤ page → page < last + 1 → IsWaiting k2.view.duties page
-  stand_then page low high = elim (cases_lt page last) [
-    | inl before ↦
-        let (j, near, w, is) = s.stand page low before in
-        let apart : j ≢ free_slot from = λ e. free_waits_not (slot_at from j).phase (subst (λ (n : ℕ). (slot_at from n).phase ≡ Free) (sym e) free.1) w in
-        let c = stays_closed j apart (inr w) in
-        (j, near, c.0, c.1 ∙ is)
-    | inr behind ↦
-        let c = stays_closed (open_slot from) o_apart (inl refl) in
-        (open_slot from, s.has_open, c.0, c.1 ∙ s.open_is ∙ (let e : last ≡ page = omega arith in e))
-  ]
-
-  only_then : (page : ℕ) → IsWaiting k2.view.duties page → (first ≤ page) × (page < last + 1)
-  only_then page (j, near, w, is) =
-      let c = closed_then j w in
-      let at : (slot_at from j).page ≡ page = sym c.1 ∙ is in
-      elim c.0 [
-        | inl mine ↦
-            let here : last ≡ page = sym s.open_is ∙ ap (λ (n : ℕ). (slot_at from n).page) (sym mine) ∙ at in
-            let order = s.order in
-            ((let a : first ≤ page = omega arith in a), (let b : page < last + 1 = omega arith in b))
-        | inr old ↦
-            let found = s.only page (j, near, old, at) in
-            let low = found.0 in
-            let high = found.1 in
-            (low, (let b : page < last + 1 = omega arith in b))
-      ]
-
-  pub kept_turned : IsMet shape k2.view → HasOpen k2.view.duties → open_page k2.view.duties ≡ from.next → IsKeeping shape k2 entries first (last + 1)
-  kept_turned met has current =
-      let role : k2.view.role ≡ Keeper = ap (λ (h : Held). h.view.role) is_after ∙ s.role in
-      let order = s.order in
-      record {
-        role = role;
-        alone = ap (λ (h : Held). h.view.duties.out) is_after ∙ s.alone;
-        has = ap (λ (h : Held). h.view.entries) is_after ∙ s.has;
-        fits = (met_fits shape k2.view role met.0 met.1 met.2).slots;
-        has_open = has;
-        open_is = current ∙ next_is shape k entries first last s;
-        order = omega arith;
-        stand = stand_then;
-        only = only_then;
-      }
+pub kept_turned : (shape : PageShape) (k k2 : Held) (entries : List Entry) (first last : ℕ) → IsKeeping shape k entries first last → 1 ≤ free_count k.view.duties → k2 ≡ rotated_held k → IsMet shape k2.view → HasOpen k2.view.duties
+    → open_page k2.view.duties ≡ k.view.duties.next → IsKeeping shape k2 entries first (last + 1)
+kept_turned shape k k2 entries first last s some is met has current =
+    keeping_of shape k k2 entries first last first (last + 1) s (ap (λ (h : Held). h.view.entries) is) (ap (λ (h : Held). h.view.duties.out) is)
+    (minded_turned shape k k2 first last (minding_of shape k entries first last s) some is met has current)
 
 -- ---- bits are read
 
 pub kept_probed : (shape : PageShape) (k k2 : Held) (entries : List Entry) (first last : ℕ) → OnlyProbes k k2 → IsMet shape k2.view → IsKeeping shape k entries first last → IsKeeping shape k2 entries first last
 kept_probed shape k k2 entries first last (more, is) met s =
-    let role : k2.view.role ≡ Keeper = ap (λ (h : Held). h.view.role) is ∙ s.role in
-    record {
-      role = role;
-      alone = ap (λ (h : Held). h.view.duties.out) is ∙ s.alone;
-      has = ap (λ (h : Held). h.view.entries) is ∙ s.has;
-      fits = (met_fits shape k2.view role met.0 met.1 met.2).slots;
-      has_open = subst (λ (h : Held). HasOpen h.view.duties) (sym is) s.has_open;
-      open_is = ap (λ (h : Held). open_page h.view.duties) is ∙ s.open_is;
-      order = s.order;
-      stand = λ page low high. subst (λ (h : Held). IsWaiting h.view.duties page) (sym is) (s.stand page low high);
-      only = λ page w. s.only page (subst (λ (h : Held). IsWaiting h.view.duties page) is w);
-    }
+    keeping_of shape k k2 entries first last first last s (ap (λ (h : Held). h.view.entries) is) (ap (λ (h : Held). h.view.duties.out) is)
+    (minded_probed shape k k2 first last (more, is) met (minding_of shape k entries first last s))
 
 pub only_table : (k k2 : Held) → OnlyProbes k k2 → k2.table ≡ k.table
 only_table k k2 (more, is) = ap (λ (h : Held). h.table) is
@@ -470,7 +202,7 @@ pub kept_probes : (shape : PageShape) (page : ℕ) (sig : Sig) (k k2 : Held) (an
 kept_probes shape page sig k k2 answer entries first last reads met s = kept_probed shape k k2 entries first last (only_of shape page sig k k2 answer reads) met s
 
 -- the marks of a signature are all set exactly where each is a mark of an entry
-all_marked : (shape : PageShape) (entries : List Entry) (page : ℕ) (sig : Sig) → HaveAllMarks shape entries page sig ↔ IsTrue (are_in (marked_set shape entries page).members (marks_of shape page sig))
+pub all_marked : (shape : PageShape) (entries : List Entry) (page : ℕ) (sig : Sig) → HaveAllMarks shape entries page sig ↔ IsTrue (are_in (marked_set shape entries page).members (marks_of shape page sig))
 unfolding set_of marks_of
 all_marked shape entries page sig = (
   (λ has. (are_in-inclusion (marked_set shape entries page).members (marks_of shape page sig)).1 (λ i x lt.
@@ -500,7 +232,7 @@ probed_bits shape k entries first last page sig answer s alone =
     let tells = alone s.alone in
     let all = all_marked shape k.view.entries page sig in
     same_bool answer (are_in (marked_set shape k.view.entries page).members (marks_of shape page sig)) (λ t. all.0 (tells.0 t)) (λ t. tells.1 (all.1 t))
-    ∙ ap (λ (es : List Entry). are_in (marked_set shape es page).members (marks_of shape page sig)) s.has
+    ∙ ap (λ (set : PageSet). are_in set.members (marks_of shape page sig)) (marked_members shape k.view.entries entries page s.has)
 
 pub copied_table : {A E : Type 0} (result : Result A E) (k k2 : Held) → OnOk result (OnlyProbes k k2) → OnErr result (k2 ≡ k) → k2.table ≡ k.table
 copied_table (Ok p) k k2 probes unchanged = only_table k k2 probes
@@ -513,7 +245,7 @@ copied_size shape (Err e) k page is = tt
 
 pub copied_bits : {E : Type 0} (shape : PageShape) (result : Result PageSet E) (k : Held) (page : ℕ) → IfOk result (λ p. p ≡ marked_set shape k.view.entries page)
     → IfOk result (λ p. (entries : List Entry) (first last : ℕ) → IsKeeping shape k entries first last → p ≡ marked_set shape entries page)
-copied_bits shape (Ok p) k page is = λ entries first last s. is ∙ ap (λ (es : List Entry). marked_set shape es page) s.has
+copied_bits shape (Ok p) k page is = λ entries first last s. is ∙ marked_members shape k.view.entries entries page s.has
 copied_bits shape (Err e) k page is = tt
 
 pub copied_kept : {A E : Type 0} (shape : PageShape) (result : Result A E) (k k2 : Held) → OnOk result (OnlyProbes k k2) → OnOk result (IsMet shape k2.view) → OnErr result (k2 ≡ k)

@@ -6,7 +6,7 @@ use Rattle.spie_base.proofs.Membership.{into_map}
 use Rattle.spie_base.specs.Shapes.{shape_of}
 use Rattle.spie_base.specs.declared.Rules.{Rules}
 use Rattle.hash_family.specs.Positions.{family_of, page_seed_of}
-use Rattle.bloom_page.specs.Sets.{is_in}
+use Rattle.bloom_page.specs.Sets.{is_in, set_of}
 use Rattle.archive_record.specs.Spelling.{bits_record, rows_record, spelled_bits, spelled_rows}
 use Rattle.archive_record.specs.declared.BitsHead.{BitsHead}
 use Rattle.page_catalogue.specs.Pages.{opened, closed}
@@ -23,7 +23,8 @@ use Rattle.data_agent.specs.declared.closed_page.Whereabouts.{Whereabouts}
 use Rattle.data_agent.specs.declared.closed_page.Whereabouts.TheVariants.{InMemory, OnShelf}
 use Rattle.data_agent.specs.declared.resident.Resident.{Resident}
 use Rattle.data_agent.specs.Residents.{IsResident}
-use Rattle.data_agent.specs.Standing.{AreClosed, AreDigests, HasNotes, HasRows, IsBitsDigest, IsPlaced, Stands, StandsAmid, StandsFor, StandsWhole, noted_page, rows_kept, standing}
+use Rattle.data_agent.specs.Standing.{AreClosed, AreDigests, HasNotes, HasPages, HasRows, IsBitsDigest, IsPlaced, Stands, StandsAmid, StandsFor, StandsWhole, digest_of, noted_page, rows_kept, standing}
+use Rattle.data_agent.specs.Archiving.{KnowsPages, KnowsTimes, IsSized, held_bits, members_at, place_at, some_page}
 use Rattle.data_agent.specs.Planes.{AreTaken}
 
 -- the closed pages of one account have the same bits and times in another
@@ -37,7 +38,7 @@ pub record Keeps (rules : Rules) (a b : Account) : Type 0 where
 abbrev head_with : Rules → (page router opened closed : ℕ) → BitsHead
 head_with rules page router opened closed = record { router = record { number = router }; page = record { number = page }; k = rules.k; seed = page_seed_of rules.base router page; opened = opened; closed = closed }
 
-head_kept : (rules : Rules) (a b : Account) (page : ℕ) → Keeps rules a b → page < length a.closings → head_of rules b page ≡ head_of rules a page
+pub head_kept : (rules : Rules) (a b : Account) (page : ℕ) → Keeps rules a b → page < length a.closings → head_of rules b page ≡ head_of rules a page
 head_kept rules a b page k lt =
     ap (λ r. head_with rules page r (opened b.closings page) (closed b.closings page)) k.router
     ∙ ap (λ o. head_with rules page a.router o (closed b.closings page)) (k.opened_same page lt)
@@ -53,7 +54,7 @@ rows_text_kept rules a b page router rows =
     ap (λ r. spelled_rows (rows_record (record { number = r }) (record { number = page }) (rows_in b.rows page))) router
     ∙ ap (λ xs. spelled_rows (rows_record (record { number = a.router }) (record { number = page }) xs)) rows
 
-digests_kept : (rules : Rules) (a b : Account) (page : ℕ) (d : Digests) → Keeps rules a b → page < length a.closings → rows_in b.rows page ≡ rows_in a.rows page → AreDigests rules a page d → AreDigests rules b page d
+pub digests_kept : (rules : Rules) (a b : Account) (page : ℕ) (d : Digests) → Keeps rules a b → page < length a.closings → rows_in b.rows page ≡ rows_in a.rows page → AreDigests rules a page d → AreDigests rules b page d
 digests_kept rules a b page d k lt rows is = record {
   bits = is.bits ∙ sym (ap sha256 (bits_text_kept rules a b page k lt));
   rows = is.rows ∙ sym (ap sha256 (rows_text_kept rules a b page k.router rows));
@@ -94,7 +95,7 @@ notes_kept rules l b u (Some closings) (Some notes) k h = record {
       let page : ℕ = note.page.number in
       let lt : page < length closings = ltb-true page (length closings) ((h.covers page).0 (into_map noted_page notes.items note has)).closed in
       let within : page < length l.account.closings = let c = h.closed in omega arith in
-      record { digest = digest_kept rules l.account b page note.bits (bits_text_kept rules l.account b page k within) (h.each note has).digest; put = (h.each note has).put };
+      record { digest = digest_kept rules l.account b page (digest_of note.bits) (bits_text_kept rules l.account b page k within) (h.each note has).digest; put = (h.each note has).put };
   refused = h.refused;
 }
 
@@ -126,15 +127,7 @@ for_of agent rules l u s = record { amid = amid_of agent rules l s.stands; noted
 
 -- ---- two ledgers of one agent
 
-abbrev pub some_page : Agent → ClosedPage
-some_page agent = record { place = OnShelf (record { bits = []; rows = [] }); covered = false }
-
--- where a page is
-pub place_at : Agent → (page : ℕ) → Whereabouts
-place_at agent page = (get_or agent.closed.items (page - agent.catalogue.gone) (some_page agent)).place
-
 pub closed_at : (agent : Agent) (rules : Rules) (l : Ledger) (page : ℕ) → Stands agent rules l → agent.catalogue.gone ≤ page → page < length l.account.closings → IsPlaced rules l.account page (is_in l.put_before page) (place_at agent page)
-unfolding place_at
 closed_at agent rules l page s from to =
     let count : agent.catalogue.gone + length agent.closed.items ≡ length l.account.closings = s.count in
     let at : agent.catalogue.gone + (page - agent.catalogue.gone) ≡ page = omega arith in
@@ -144,11 +137,7 @@ same_place : (rules other : Rules) (a b : Account) (page : ℕ) (p q : Bool) (w 
 same_place rules other a b page p q (InMemory r) x y = x.0 ∙ sym y.0
 same_place rules other a b page p q (OnShelf d) x y = x.0 ∙ sym y.0
 
-pub same_ends : (agent : Agent) (rules other : Rules) (l m : Ledger) → Stands agent rules l → Stands agent other m → length l.account.closings ≡ length m.account.closings
-same_ends agent rules other l m s t = ap length (sym s.pages.closings ∙ t.pages.closings)
-
 closed_amid : (agent : Agent) (rules : Rules) (l : Ledger) (page : ℕ) → StandsAmid agent rules l → agent.catalogue.gone ≤ page → page < standing agent → IsPlaced rules l.account page (is_in l.put_before page) (place_at agent page)
-unfolding place_at
 closed_amid agent rules l page s from to =
     let at : agent.catalogue.gone + (page - agent.catalogue.gone) ≡ page = omega arith in
     subst (λ p. IsPlaced rules l.account p (is_in l.put_before p) (place_at agent page)) at (s.closed (page - agent.catalogue.gone) (some_page agent) (omega arith)).placed
@@ -160,18 +149,40 @@ same_put_amid agent rules other l m page s t from =
       | inr ge ↦ (s.to_come page ge).unput ∙ sym (t.to_come page ge).unput
     ]
 
-pub same_put : (agent : Agent) (rules other : Rules) (l m : Ledger) (page : ℕ) → Stands agent rules l → Stands agent other m → agent.catalogue.gone ≤ page → is_in l.put_before page ≡ is_in m.put_before page
-same_put agent rules other l m page s t from = same_put_amid agent rules other l m page (amid_of agent rules l s) (amid_of agent other m t) from
+-- ---- what an archival needs to know
 
-same_set : (rules other : Rules) (a b : Account) (page : ℕ) (p q : Bool) (w : Whereabouts) → p ≡ false → IsPlaced rules a page p w → IsPlaced other b page q w → page_set rules a page ≡ page_set other b page
-same_set rules other a b page p q (InMemory r) unput x y = sym x.1.page_is ∙ y.1.page_is
-same_set rules other a b page p q (OnShelf d) unput x y = absurd (false≢true (sym unput ∙ x.0))
+pub times_of : (agent : Agent) (rules : Rules) (a : Account) → HasPages agent rules a → KnowsTimes agent rules a
+times_of agent rules a s = record { rules_are = s.rules_are; router = s.router; closings = s.closings; page = s.page; few = s.few }
 
-pub same_bits : (agent : Agent) (rules other : Rules) (l m : Ledger) (page : ℕ) → Stands agent rules l → Stands agent other m → agent.catalogue.gone ≤ page → page < length l.account.closings → is_in l.put_before page ≡ false
-    → bits rules l.account page ≡ bits other m.account page
-same_bits agent rules other l m page s t from to unput =
-    let e : length l.account.closings ≡ length m.account.closings = same_ends agent rules other l m s t in
-    ap (λ x. x.members) (same_set rules other l.account m.account page (is_in l.put_before page) (is_in m.put_before page) (place_at agent page) unput (closed_at agent rules l page s from to) (closed_at agent other m page t from (omega arith)))
+sized_place : (rules : Rules) (a : Account) (page : ℕ) (put : Bool) (w : Whereabouts) → IsPlaced rules a page put w → IsSized rules put w
+unfolding set_of
+sized_place rules a page put (InMemory r) is = (is.0, ap (λ s. s.n) is.1.page_is)
+sized_place rules a page put (OnShelf d) is = is.0
+
+pub knows_of : (agent : Agent) (rules : Rules) (l : Ledger) → StandsAmid agent rules l → KnowsPages agent rules l
+knows_of agent rules l s = record {
+  ranges = s.pages.ranges;
+  router_fits = s.pages.router_fits;
+  ascend = s.pages.times;
+  times = times_of agent rules l.account s.pages;
+  first = s.pages.first;
+  within = s.pages.keeping.order;
+  sized = λ page from to. sized_place rules l.account page (is_in l.put_before page) (place_at agent page) (closed_amid agent rules l page s from to);
+  to_come = λ page le. (s.to_come page le).unput;
+}
+
+pub knows_whole : (agent : Agent) (rules : Rules) (l : Ledger) → Stands agent rules l → KnowsPages agent rules l
+knows_whole agent rules l s = knows_of agent rules l (amid_of agent rules l s)
+
+bits_at : (rules : Rules) (a : Account) (page : ℕ) (put : Bool) (w : Whereabouts) → put ≡ false → IsPlaced rules a page put w → members_at w ≡ bits rules a page
+unfolding set_of
+bits_at rules a page put (InMemory r) unput is = ap (λ s. s.members) is.1.page_is
+bits_at rules a page put (OnShelf d) unput is = absurd (false≢true (sym unput ∙ is.0))
+
+-- a page in memory has its bits
+pub held_true : (agent : Agent) (rules : Rules) (l : Ledger) (page : ℕ) → Stands agent rules l → agent.catalogue.gone ≤ page → page < length l.account.closings → is_in l.put_before page ≡ false
+    → held_bits agent page ≡ bits rules l.account page
+held_true agent rules l page s from to unput = bits_at rules l.account page (is_in l.put_before page) (place_at agent page) unput (closed_at agent rules l page s from to)
 
 -- a page that has not expired and was not put has its rows
 pub kept_here : (gone : ℕ) (l : Ledger) (page : ℕ) → gone ≤ page → is_in l.put_before page ≡ false → rows_kept gone l page ≡ rows_in l.account.rows page

@@ -1,5 +1,6 @@
 -- An agent and its plane.
-use Rattle.std.proofs.Common.{ℕ, ◌≡◌, ◌≤◌, ◌<◌, ◌+◌, ◌∙◌, List, length, Bool, false, not, ◌&&◌, Option, Some, None, sym, ap, subst, refl, arith}
+use Rattle.std.proofs.lemmas.Bool.{false≢true}
+use Rattle.std.proofs.Common.{is_some, true, ℕ, ◌≡◌, ◌≤◌, ◌<◌, ◌+◌, ◌∙◌, List, length, Bool, false, not, ◌&&◌, Option, Some, None, sym, ap, subst, refl, arith}
 use Rattle.spie_base.specs.Shapes.{shape_of}
 use Rattle.spie_base.specs.declared.Entry.{Entry}
 use Rattle.spie_base.specs.declared.PageShape.{PageShape}
@@ -18,10 +19,11 @@ use Rattle.data_agent.specs.Calls.{IsNoted, Meaning, MayTurn, with_more}
 use Rattle.data_agent.specs.Passing.{StandsForSame}
 use Rattle.data_agent.proofs.Kept.{for_of}
 use Rattle.data_agent.proofs.Passing.{IsCount}
-use Rattle.data_agent.specs.Planes.{HasCopy, IsCopy, IsOwnPlane, IsPlaneSame, IsProbed, IsRestSame}
+use Rattle.data_agent.specs.Planes.{entries_of, HasCopy, MayCopy, IsCopy, IsOwnPlane, IsPlaneSame, IsRestSame}
 use Rattle.data_agent.specs.Residents.{IsResident}
 use Rattle.data_agent.specs.Standing.{HasNotes, HasPages, IsKeeping, Stands, StandsAmid, StandsFor, StandsWhole, StillStands, StillWhole, standing}
 use Rattle.data_agent.specs.Watching.{shows_now}
+use Rattle.data_agent.proofs.SameMembers.{marked_members}
 use Rattle.data_agent.proofs.Steps.{amid_then}
 
 -- ---- the agent's own plane
@@ -42,20 +44,46 @@ module _ (plane : PlaneId) (agent : Agent) (rules : Rules) (a : Account) (own : 
   kept_then keeper kept k = kept_by keeper (standing agent) (length a.closings) (kept a.entries (standing agent) (length a.closings) own_keeping)
 
 -- the plane stays the agent's
-pub own_same : (plane : PlaneId) (old new : Agent) → IsOwnPlane plane old → IsPlaneSame old new → IsOwnPlane plane new
-own_same plane old new own same = record {
-  table = ap (λ (k : Held). k.table) same.keeper ∙ own.table;
-  shape = own.shape ∙ ap (λ (r : Rules). shape_of r old.router.number) (sym same.rules) ∙ ap (λ r. shape_of new.rules r.number) (sym same.router);
-}
+copy_same : (old new : Agent) (r : Resident) → new.rules ≡ old.rules → new.router ≡ old.router → new.page ≡ old.page → entries_of new ≡ entries_of old → IsCopy old r → IsCopy new r
+copy_same old new r rules router page entries is =
+    let shape : shape_of old.rules old.router.number ≡ shape_of new.rules new.router.number = ap (λ (x : Rules). shape_of x old.router.number) (sym rules) ∙ ap (λ x. shape_of new.rules x.number) (sym router) in
+    let number : old.page.number ≡ new.page.number = ap (λ x. x.number) (sym page) in
+    record {
+      family = is.family ∙ ap (λ (x : PageShape). family_of x old.page.number) shape ∙ ap (family_of (shape_of new.rules new.router.number)) number;
+      page_is = is.page_is ∙ ap (λ (x : PageShape). marked_set x (entries_of old) old.page.number) shape
+          ∙ ap (λ (es : List Entry). marked_set (shape_of new.rules new.router.number) es old.page.number) (sym entries)
+          ∙ ap (marked_set (shape_of new.rules new.router.number) (entries_of new)) number;
+    }
 
-pub own_with : (plane : PlaneId) (old new : Agent) → IsOwnPlane plane old → new.keeper.table ≡ old.keeper.table → new.rules ≡ old.rules → new.router ≡ old.router → IsOwnPlane plane new
-own_with plane old new own table rules router = record {
+may_same : (old new : Agent) (copied : Option Resident) → new.rules ≡ old.rules → new.router ≡ old.router → new.page ≡ old.page → entries_of new ≡ entries_of old → MayCopy old copied → MayCopy new copied
+may_same old new None rules router page entries may = tt
+may_same old new (Some r) rules router page entries may = copy_same old new r rules router page entries may
+
+pub own_with : (plane : PlaneId) (old new : Agent) → IsOwnPlane plane old → new.keeper.table ≡ old.keeper.table → new.rules ≡ old.rules → new.router ≡ old.router → new.page ≡ old.page → new.copied ≡ old.copied → entries_of new ≡ entries_of old → IsOwnPlane plane new
+own_with plane old new own table rules router page copied entries = record {
   table = table ∙ own.table;
   shape = own.shape ∙ ap (λ (r : Rules). shape_of r old.router.number) (sym rules) ∙ ap (λ r. shape_of new.rules r.number) (sym router);
+  copied = subst (MayCopy new) (sym copied) (may_same old new old.copied rules router page entries own.copied);
 }
 
+-- the same where there is no copy any more
+pub own_bare : (plane : PlaneId) (old new : Agent) → IsOwnPlane plane old → new.keeper.table ≡ old.keeper.table → new.rules ≡ old.rules → new.router ≡ old.router → new.copied ≡ None → IsOwnPlane plane new
+own_bare plane old new own table rules router none = record {
+  table = table ∙ own.table;
+  shape = own.shape ∙ ap (λ (r : Rules). shape_of r old.router.number) (sym rules) ∙ ap (λ r. shape_of new.rules r.number) (sym router);
+  copied = subst (MayCopy new) (sym none) tt;
+}
+
+pub own_same : (plane : PlaneId) (old new : Agent) → IsOwnPlane plane old → IsPlaneSame old new → IsOwnPlane plane new
+own_same plane old new own same = own_with plane old new own (ap (λ (k : Held). k.table) same.keeper) same.rules same.router same.page same.copied (ap (λ (k : Held). k.view.entries) same.keeper)
+
 pub plane_then : (a b c : Agent) → IsPlaneSame a b → IsPlaneSame b c → IsPlaneSame a c
-plane_then a b c x y = record { keeper = y.keeper ∙ x.keeper; rules = y.rules ∙ x.rules; router = y.router ∙ x.router }
+plane_then a b c x y = record { keeper = y.keeper ∙ x.keeper; rules = y.rules ∙ x.rules; router = y.router ∙ x.router; page = y.page ∙ x.page; copied = y.copied ∙ x.copied }
+
+-- a copy that is there is one of the open page
+pub had_copy : (agent : Agent) (copied : Option Resident) → MayCopy agent copied → is_some copied ≡ true → HasCopy agent copied
+had_copy agent None may some = absurd (false≢true some)
+had_copy agent (Some r) may some = may
 
 -- ---- an agent of which only the keeper and the collected pages differ
 
@@ -63,7 +91,7 @@ pub for_same : (old new : Agent) → IsRestSame old new → ((rules : Rules) (l 
 for_same old new rest kept rules l u s = record { amid = kept rules l s.amid; noted = subst (HasNotes rules l u l.closed_at_archive) (sym rest.noted) s.noted }
 
 pub rest_then : (a b c : Agent) → IsRestSame a b → IsRestSame b c → IsRestSame a c
-rest_then a b c x y = record { catalogue = y.catalogue ∙ x.catalogue; page = y.page ∙ x.page; noted = y.noted ∙ x.noted }
+rest_then a b c x y = record { catalogue = y.catalogue ∙ x.catalogue; page = y.page ∙ x.page; noted = y.noted ∙ x.noted; entries = y.entries ∙ x.entries }
 
 pub may_turn : (old new : Agent) (clock : ℕ) → StillStands old new → MayTurn (StandsFor old) clock → MayTurn (StandsFor new) clock
 may_turn old new clock still (rules, l, u, s, late, room) = (rules, l, u, still rules l u s, late, room)
@@ -86,7 +114,7 @@ copy_of agent rules l r s is =
     let shape : shape_of agent.rules agent.router.number ≡ shape_of rules l.account.router = ap (λ (x : Rules). shape_of x agent.router.number) s.pages.rules_are ∙ ap (λ (n : ℕ). shape_of rules n) s.pages.router in
     record {
       family = is.family ∙ ap (λ (x : PageShape). family_of x agent.page.number) shape;
-      page_is = is.page_is ∙ ap (λ (x : PageShape). marked_set x agent.keeper.view.entries agent.page.number) shape ∙ ap (λ (es : List Entry). marked_set (shape_of rules l.account.router) es agent.page.number) s.pages.keeping.has;
+      page_is = is.page_is ∙ ap (λ (x : PageShape). marked_set x agent.keeper.view.entries agent.page.number) shape ∙ marked_members (shape_of rules l.account.router) agent.keeper.view.entries l.account.entries agent.page.number s.pages.keeping.has;
     }
 
 pub some_copy : (agent : Agent) (copied : Option Resident) → HasCopy agent copied → (r : Resident) → copied ≡ Some r → IsCopy agent r
@@ -148,7 +176,7 @@ copied_bits plane agent keeper bits rules l u own s same told =
     let k2 = same l.account.entries (standing agent) (length l.account.closings) k in
     told l.account.entries (standing agent) (length l.account.closings) k
     ∙ ap (λ (x : PageShape). marked_set x l.account.entries agent.page.number) own.shape
-    ∙ ap (λ (es : List Entry). marked_set (shape_of agent.rules agent.router.number) es agent.page.number) (sym k2.has)
+    ∙ sym (marked_members (shape_of agent.rules agent.router.number) keeper.view.entries l.account.entries agent.page.number k2.has)
 
 -- the keeper noted reads, and the copy is another
 pub for_copied : (plane : PlaneId) (old new : Agent) (rules : Rules) (l : Ledger) (u : Unfinished) → IsOwnPlane plane old
@@ -158,19 +186,6 @@ for_copied plane old new rules l u own same_rules router page first marked items
   amid = amid_then old new rules l s.amid same_rules router page first marked items catalogue table (kept_then plane old rules l.account own s.amid.pages new.keeper same);
   noted = subst (HasNotes rules l u l.closed_at_archive) (sym noted) s.noted;
 }
-
--- a page that stands in a slot may be probed
-pub probe_needs : (plane : PlaneId) (agent : Agent) (rules : Rules) (l : Ledger) (page : ℕ) → IsOwnPlane plane agent → StandsAmid agent rules l → standing agent ≤ page → page ≤ agent.page.number
-    → (entries : List Entry) × (first : ℕ) × (last : ℕ) × IsKeeping plane.shape agent.keeper entries first last × (first ≤ page) × (page ≤ last)
-probe_needs plane agent rules l page own s from to =
-    let end = s.pages.page in
-    (l.account.entries, standing agent, length l.account.closings, own_keeping plane agent rules l.account own s.pages, from, (omega arith))
-
-pub for_probed : (old new : Agent) → IsProbed old new → ((rules : Rules) (l : Ledger) → StandsAmid old rules l → StandsAmid new rules l) → StillStands old new
-for_probed old new probed kept rules l u s = record { amid = kept rules l s.amid; noted = subst (HasNotes rules l u l.closed_at_archive) (sym (ap (λ (a : Agent). a.noted) probed)) s.noted }
-
-pub probed_then : (a b c : Agent) → IsProbed a b → IsProbed b c → IsProbed a c
-probed_then a b c x y = y ∙ ap (λ (d : Agent). record d { keeper = c.keeper }) x
 
 -- ---- what calls tell, one behind the other
 

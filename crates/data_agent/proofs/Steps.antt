@@ -1,5 +1,5 @@
 -- What an agent stands for after a record, a closing or a barrier.
-use Rattle.std.proofs.Common.{Result, Ok, Err, OnOk, None, map, cond, ◌==◌, append-nil, ℕ, ◌≡◌, ◌≤◌, ◌<◌, ◌+◌, ◌-◌, ◌^◌, ◌∷◌, [], ◌++◌, ◌∙◌, List, length, get_or, filter, All, sym, ap, refl, subst, inl, inr, min, arith, Bool, true, false, ◌&&◌, ◌||◌, nat_lt, lit<, length-append}
+use Rattle.std.proofs.Common.{Result, Ok, Err, OnOk, None, Option, map, cond, ◌==◌, append-nil, ℕ, ◌≡◌, ◌≤◌, ◌<◌, ◌+◌, ◌-◌, ◌^◌, ◌∷◌, [], ◌++◌, ◌∙◌, List, length, get_or, filter, All, sym, ap, refl, subst, inl, inr, min, arith, Bool, true, false, ◌&&◌, ◌||◌, nat_lt, lit<, length-append}
 use Rattle.std.proofs.lemmas.Bool.{cases_eq, eq-eqb, eqb-true, ne_eqb, cases_lt, le-ltb, ltb-false, false≢true}
 use Rattle.spie_base.proofs.Booleans.{none_holds}
 use Rattle.router_account.specs.Account.{with_row}
@@ -60,10 +60,10 @@ keeps_record rules a sig = record {
   closed_same = λ page lt. refl;
 }
 
-pub recorded : (old : Agent) (keeper : Held) (marked : ℕ) (page : PageNo) (rules : Rules) (l : Ledger) (u : Unfinished) (sig : Sig) → StandsFor old rules l u
+pub recorded : (old : Agent) (keeper : Held) (marked : ℕ) (copied : Option Resident) (page : PageNo) (rules : Rules) (l : Ledger) (u : Unfinished) (sig : Sig) → StandsFor old rules l u
     → page.number ≡ page_open old.keeper.view.duties → keeper ≡ recorded_held old.keeper page sig → marked ≡ min (old.marked + old.rules.k) (2 ^ 32 - 1)
-    → StandsFor (record old { keeper = keeper; marked = marked }) rules (recorded_in l (length l.account.closings) sig) u
-recorded old keeper marked page rules l u sig s at is sum =
+    → StandsFor (record old { keeper = keeper; marked = marked; copied = copied }) rules (recorded_in l (length l.account.closings) sig) u
+recorded old keeper marked copied page rules l u sig s at is sum =
     let a = l.account in
     let last = length a.closings in
     let pages = s.amid.pages in
@@ -203,10 +203,10 @@ closed_more_page rules l first pages more each last i d lt =
           subst (λ (b : ClosedPage). IsClosed rules l (first + i) b) (sym (get_or_push pages more d i at)) (subst (λ n. IsClosed rules l (first + n) more) at last)
     ]
 
-closings_more : (a : Account) (clock : ℕ) → length (a.closings ++ clock ∷ []) ≡ length a.closings + 1
+pub closings_more : (a : Account) (clock : ℕ) → length (a.closings ++ clock ∷ []) ≡ length a.closings + 1
 closings_more a clock = length-append a.closings (clock ∷ [])
 
-entered_more : (entries : List Entry) (last more : ℕ) → last ≤ more → All (λ entry. entry.page.number ≤ last) entries → All (λ entry. entry.page.number ≤ more) entries
+pub entered_more : (entries : List Entry) (last more : ℕ) → last ≤ more → All (λ entry. entry.page.number ≤ last) entries → All (λ entry. entry.page.number ≤ more) entries
 entered_more entries last more le each k d lt = let e : (get_or entries k d).page.number ≤ last = each k d lt in omega arith
 
 ascend_more : (closings : List ℕ) (clock : ℕ) → AreAscending closings → ((time : ℕ) → Contains closings time → time ≤ clock) → AreAscending (closings ++ clock ∷ [])
@@ -231,7 +231,7 @@ ascend_more closings clock ascend late i j le lt =
           ]
     ]
 
-times_more : (closings : List ℕ) (clock : ℕ) → AreTimes closings → ((time : ℕ) → Contains closings time → time ≤ clock) → clock < 2 ^ 48 → AreTimes (closings ++ clock ∷ [])
+pub times_more : (closings : List ℕ) (clock : ℕ) → AreTimes closings → ((time : ℕ) → Contains closings time → time ≤ clock) → clock < 2 ^ 48 → AreTimes (closings ++ clock ∷ [])
 times_more closings clock times late fits = record {
   ascend = ascend_more closings clock times.ascend late;
   fit = λ time has. elim (Contains-append_cases closings (clock ∷ []) time has) [
@@ -241,7 +241,7 @@ times_more closings clock times late fits = record {
 }
 
 -- nothing was recorded yet in a page to come
-fresh_fill : (rules : Rules) (a : Account) (page : ℕ) → All (λ entry. entry.page.number ≤ length a.closings) a.entries → length a.closings < page → fill rules a page ≡ 0
+pub fresh_fill : (rules : Rules) (a : Account) (page : ℕ) → All (λ entry. entry.page.number ≤ length a.closings) a.entries → length a.closings < page → fill rules a page ≡ 0
 fresh_fill rules a page entered past = ap (λ s. length s.members) (page_set_fresh rules a.router page (length a.closings) a.entries entered past)
 
 pub pages_turned : (old new : Agent) (rules : Rules) (a : Account) (clock : ℕ) → HasPages old rules a → length old.catalogue.closings + 1 < 2 ^ 32 - 1 → AreTimes (old.catalogue.closings ++ clock ∷ [])

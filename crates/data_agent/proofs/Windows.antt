@@ -19,7 +19,7 @@ pub record IsWindow (rules : Rules) (a : Account) (time first last : ℕ) : Type
   pub inside : (page : ℕ) → first ≤ page → page ≤ last → Contains (window rules a time) page
   pub outside : (page : ℕ) → Contains (window rules a time) page → (first ≤ page) × (page ≤ last)
 
-window_has : (rules : Rules) (a : Account) (time page : ℕ) → IsTrue (is_in_window rules a.closings time page) → Contains (window rules a time) page
+pub window_has : (rules : Rules) (a : Account) (time page : ℕ) → IsTrue (is_in_window rules a.closings time page) → Contains (window rules a time) page
 window_has rules a time page is =
     let exists : page ≤ length a.closings = (from_test rules a.closings time page is).exists in
     into_filter (is_in_window rules a.closings time) (below (length a.closings + 1)) page (Contains-range (length a.closings + 1) page (omega arith)) is

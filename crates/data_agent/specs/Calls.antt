@@ -74,6 +74,14 @@ pub record IsNoted (before after : Meaning) (more : Unfinished) (tells : Bool) (
   pub holds_bits : (rules : Rules) (l : Ledger) (u : Unfinished) → before rules l u → tells ≡ true → Holds rules old l → HoldsBits rules new l.account more
   pub others : (rules : Rules) (l : Ledger) (u : Unfinished) → before rules l u → tells ≡ true → KeepsOthers l.account.router old new
 
+-- the same while passes are out. That what was put are the pages' bits is known once the passes are gathered
+pub record IsNotedBeside (before after : Meaning) (more : Unfinished) (tells : Bool) (old new : Contents) : Type 0 where
+  pub noted : (rules : Rules) (l : Ledger) (u : Unfinished) → before rules l u → after rules (at_archive l) (with_more u more)
+  pub closed : (rules : Rules) (l : Ledger) (u : Unfinished) → before rules l u → (x : PutBits) → Contains more.bits_put x → x.page < length l.account.closings
+  pub holds : (rules : Rules) (l : Ledger) (u : Unfinished) → before rules l u → tells ≡ true → Holds rules old l → Holds rules new l
+  pub holds_bits : (rules : Rules) (l : Ledger) (u : Unfinished) → before rules l u → tells ≡ true → Holds rules old l → HoldsBits rules new l.account more
+  pub others : (rules : Rules) (l : Ledger) (u : Unfinished) → before rules l u → tells ≡ true → KeepsOthers l.account.router old new
+
 -- ---- a barrier
 
 abbrev pub number_of : PageNo → ℕ

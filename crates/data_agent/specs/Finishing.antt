@@ -4,9 +4,9 @@ use Rattle.std.specs.List.{Contains}
 use Rattle.spie_base.specs.Causes.{RoseBy}
 use Rattle.spie_base.specs.declared.PageNo.{PageNo}
 use Rattle.spie_base.specs.declared.Rules.{Rules}
-use Rattle.page_shelf.specs.Shelves.{IsSame}
+use Rattle.page_shelf.specs.Shelves.{Contents, IsSame}
 use Rattle.page_shelf.specs.declared.ShelfName.{ShelfName}
-use Rattle.page_shelf.specs.declared.ShelfPart.TheVariants.{Rows}
+use Rattle.page_shelf.specs.declared.ShelfPart.TheVariants.{Bits, Rows}
 use Rattle.shelved_page.specs.declared.shelving.Digests.{Digests}
 use Rattle.shelved_page.specs.Shelving.{count_if}
 use Rattle.router_account.specs.Account.{Account}
@@ -19,7 +19,7 @@ use Rattle.data_agent.specs.declared.archival.Note.{Note}
 use Rattle.data_agent.specs.declared.finishing.Settled.{Settled}
 use Rattle.data_agent.specs.declared.outcome.Archived.{Archived}
 use Rattle.data_agent.specs.Calls.{split_by}
-use Rattle.data_agent.specs.Standing.{AreDigests, StandsWhole, noted_page, is_refused}
+use Rattle.data_agent.specs.Standing.{AreDigests, IsBitsDigest, StandsWhole, digest_of, noted_page, is_deferred, is_refused, is_stored}
 
 abbrev pub was_put : Settled → Bool
 was_put one = is_some one.digests
@@ -47,9 +47,42 @@ numbers_kept settled = map settled_number (filter was_kept settled)
 
 -- the pages whose bits record was put
 abbrev pub numbers_done : List Note → List ℕ
-numbers_done notes = map noted_page (filter (λ note. is_some note.bits) notes)
+numbers_done notes = map noted_page (filter is_stored notes)
 
--- ---- the puts
+-- ---- the bits records that were deferred
+
+-- what the true bits record of a page has under its name
+abbrev pub HasBits : Rules → Account → Contents → (page : ℕ) → Type 0
+HasBits rules a contents page = contents (name_of a.router page Bits) ≡ Some (true_text rules a page Bits)
+
+-- a noted page's bits record was put, where it was deferred
+pub record PutsDeferred (rules : Rules) (a : Account) (note new : Note) (before after : ShelfView) : Type 0 where
+  pub page : new.page.number ≡ note.page.number
+  pub digest : IsBitsDigest rules a new.page.number (digest_of new.bits)
+  pub known : is_deferred new ≡ false
+  pub still : after.tells ≡ before.tells
+  pub few : count_if (is_refused note) ≤ count_if (is_refused new)
+  pub rose : RoseBy (count_if (is_refused new) - count_if (is_refused note)) before.faults after.faults
+  pub keeps : before.tells ≡ true → (page : ℕ) → HasBits rules a before.contents page → HasBits rules a after.contents page
+  pub stands : before.tells ≡ true → (is_stored note ≡ true → HasBits rules a before.contents note.page.number) → is_stored new ≡ true
+      → HasBits rules a after.contents new.page.number
+  pub others : before.tells ≡ true → (name : ShelfName) → (name ≡ name_of a.router note.page.number Bits → ⊥) → after.contents name ≡ before.contents name
+
+-- and those of several
+pub record PutsAllDeferred (rules : Rules) (a : Account) (notes new : List Note) (before after : ShelfView) : Type 0 where
+  pub pages : map noted_page new ≡ map noted_page notes
+  pub digests : (note : Note) → Contains new note → IsBitsDigest rules a note.page.number (digest_of note.bits)
+  pub known : (note : Note) → Contains new note → is_deferred note ≡ false
+  pub still : after.tells ≡ before.tells
+  pub few : length (filter is_refused notes) ≤ length (filter is_refused new)
+  pub rose : RoseBy (length (filter is_refused new) - length (filter is_refused notes)) before.faults after.faults
+  pub keeps : before.tells ≡ true → (page : ℕ) → HasBits rules a before.contents page → HasBits rules a after.contents page
+  pub stand : before.tells ≡ true → ((note : Note) → Contains notes note → is_stored note ≡ true → HasBits rules a before.contents note.page.number)
+      → (note : Note) → Contains new note → is_stored note ≡ true → HasBits rules a after.contents note.page.number
+  pub others : before.tells ≡ true → (name : ShelfName) → ((page : ℕ) → Contains (map noted_page notes) page → name ≡ name_of a.router page Bits → ⊥)
+      → after.contents name ≡ before.contents name
+
+-- ---- the rows records
 
 -- the digests are those of the true records
 abbrev pub HaveTrue : Rules → Account → (page : ℕ) → Option Digests → Type 0
@@ -67,7 +100,7 @@ digests_with bits (Some rows) = Some (record { bits = bits; rows = rows })
 pub record FinishesOne (rules : Rules) (a : Account) (note : Note) (one : Settled) (before after : ShelfView) : Type 0 where
   pub page : one.page ≡ note.page
   pub settled : IsSettled rules a one
-  pub done : was_put one ≡ true → is_some note.bits ≡ true
+  pub done : was_put one ≡ true → is_stored note ≡ true
   pub still : after.tells ≡ before.tells
   pub rose : RoseBy (count_if (was_kept one) - count_if (is_refused note)) before.faults after.faults
   pub stands : before.tells ≡ true → was_put one ≡ true → after.contents (name_of a.router note.page.number Rows) ≡ Some (true_text rules a note.page.number Rows)

@@ -1,11 +1,15 @@
 pub mod Archiving
+pub mod Beside
+pub mod BesideWatches
 pub mod Calls
 pub mod Expiring
 pub mod Finishing
 pub mod Laws
 pub mod Looking
+pub mod Members
 pub mod Passing
 pub mod Planes
+pub mod Probing
 pub mod Residents
 pub mod Seeing
 pub mod Standing

@@ -1,5 +1,5 @@
 -- For which ledger an agent stands. No public clause looks into it.
-use Rattle.std.specs.Prelude.{ℕ, ◌≡◌, ◌≤◌, ◌<◌, ◌+◌, ◌-◌, ◌^◌, ◌↔◌, ◌||◌, List, [], All, Bool, true, false, not, length, map, filter, slice_index_or, nat_lt, is_some, Option, Some, None, Vec, if◌then◌else◌}
+use Rattle.std.specs.Prelude.{ℕ, ◌≡◌, ◌≤◌, ◌<◌, ◌+◌, ◌-◌, ◌^◌, ◌↔◌, ◌||◌, List, [], All, Bool, true, false, length, map, filter, slice_index_or, nat_lt, is_some, Option, Some, None, Vec, if◌then◌else◌}
 use Rattle.std.specs.List.{Contains}
 use Rattle.std.specs.declared.alloc.Global.{Global}
 use Rattle.sha2.specs.Sha256.{sha256}
@@ -26,9 +26,12 @@ use Rattle.transform_table.specs.Tables.{rows_of_page}
 use Rattle.router_account.specs.Ledger.{Ledger, PutBits, Unfinished}
 use Rattle.data_agent.specs.declared.agent.Agent.{Agent}
 use Rattle.data_agent.specs.declared.archival.Note.{Note}
+use Rattle.data_agent.specs.declared.archival.NotedBits.{NotedBits}
+use Rattle.data_agent.specs.declared.archival.NotedBits.TheVariants.{Stored, Refused, Deferred}
 use Rattle.data_agent.specs.declared.closed_page.ClosedPage.{ClosedPage}
 use Rattle.data_agent.specs.declared.closed_page.Whereabouts.{Whereabouts}
 use Rattle.data_agent.specs.declared.closed_page.Whereabouts.TheVariants.{InMemory, OnShelf}
+use Rattle.data_agent.specs.Members.{HaveSameMembers}
 use Rattle.data_agent.specs.Residents.{IsResident}
 
 -- a clock that is not before the last barrier's and no closing's is not before the agent's
@@ -40,12 +43,12 @@ pub record AreTimes (closings : List ℕ) : Type 0 where
   pub ascend : AreAscending closings
   pub fit : (time : ℕ) → Contains closings time → time < 2 ^ 48
 
--- the keeper of an agent, on a plane of this shape: it has these entries, page `last` is open, and the pages from `first` on and before
+-- the keeper of an agent, on a plane of this shape: it has these entries in any order, page `last` is open, and the pages from `first` on and before
 -- that one are closed and stand in slots, and no others do
 pub record IsKeeping (shape : PageShape) (keeper : Held) (entries : List Entry) (first last : ℕ) : Type 0 where
   pub role : keeper.view.role ≡ Keeper
   pub alone : keeper.view.duties.out ≡ 0
-  pub has : keeper.view.entries ≡ entries
+  pub has : HaveSameMembers keeper.view.entries entries
   pub fits : SlotsFit shape keeper.view.duties
   pub has_open : HasOpen keeper.view.duties
   pub open_is : page_open keeper.view.duties ≡ last
@@ -117,8 +120,31 @@ pub record HasRows (agent : Agent) (l : Ledger) : Type 0 where
 
 -- ---- the segment's archival
 
+-- the digest of a bits record that was put
+abbrev pub digest_of : NotedBits → Option (List ℕ)
+digest_of (Stored digest) = Some digest
+digest_of Refused = None
+digest_of Deferred = None
+
+abbrev pub was_refused : NotedBits → Bool
+was_refused (Stored digest) = false
+was_refused Refused = true
+was_refused Deferred = false
+
+-- nothing was put of it yet
+abbrev pub was_deferred : NotedBits → Bool
+was_deferred (Stored digest) = false
+was_deferred Refused = false
+was_deferred Deferred = true
+
+abbrev pub is_stored : Note → Bool
+is_stored note = is_some (digest_of note.bits)
+
 abbrev pub is_refused : Note → Bool
-is_refused note = not (is_some note.bits)
+is_refused note = was_refused note.bits
+
+abbrev pub is_deferred : Note → Bool
+is_deferred note = was_deferred note.bits
 
 abbrev pub noted_page : Note → ℕ
 noted_page note = note.page.number
@@ -132,8 +158,8 @@ IsBitsDigest rules a page (Some digest) = digest ≡ sha256 (true_text rules a p
 
 -- a note of a page whose bits record was put has its digest
 pub record IsNote (rules : Rules) (a : Account) (u : Unfinished) (note : Note) : Type 0 where
-  pub digest : IsBitsDigest rules a note.page.number note.bits
-  pub put : is_some note.bits ≡ true → Contains (map put_page u.bits_put) note.page.number
+  pub digest : IsBitsDigest rules a note.page.number (digest_of note.bits)
+  pub put : is_stored note ≡ true → Contains (map put_page u.bits_put) note.page.number
 
 -- the notes of an archival that came when these pages had closed
 pub record AreNotes (rules : Rules) (l : Ledger) (u : Unfinished) (closings : List ℕ) (notes : List Note) : Type 0 where

@@ -3,7 +3,7 @@
 // The open page and the closed ones that were not collected yet stand in slots of the plane. The agent has a place for each closed page
 // that was collected and has not expired, in order, so a page's number is its place behind the expired ones; the numbers
 // behind the last place are those of pages that stand in slots.
-ghost use Rattle.std.specs.Prelude.{◌≡◌, ◌<◌, ◌≤◌, ◌+◌, ◌-◌, ◌^◌, ℕ, IfOk, OnOk, OnErr, length};
+ghost use Rattle.std.specs.Prelude.{◌≡◌, ◌<◌, ◌≤◌, ◌+◌, ◌-◌, ◌^◌, ◌++◌, ◌∷◌, [], ℕ, IfOk, OnOk, OnErr, length};
 ghost use Rattle.spie_base.specs.Shapes.{AreInRange, shape_of};
 ghost use Rattle.archive_record.specs.Spelling.{IsPlainRow};
 ghost use Rattle.spie_base.specs.declared.Rules.{Rules as TheRules};
@@ -11,7 +11,7 @@ ghost use Rattle.page_catalogue.specs.Pages.{open_page};
 ghost use Rattle.page_gate.specs.Held.{PlaneId};
 ghost use Rattle.router_account.specs.Ledger.{Ledger, Unfinished, first_ledger, nothing_unfinished, recorded_in, changed_in};
 ghost use Rattle.data_agent.specs.Calls.{IsNear};
-ghost use Rattle.data_agent.specs.Planes.{IsOwnPlane};
+ghost use Rattle.data_agent.specs.Planes.{IsOwnPlane, entries_of};
 ghost use Rattle.data_agent.specs.Standing.{StandsFor};
 
 use crate::Resident;
@@ -93,6 +93,7 @@ impl Agent {
         ensures first { IfOk result (λ r. StandsFor r.1 rules.now (first_ledger router.number) nothing_unfinished) }
         ensures own { IfOk result (λ r. IsOwnPlane r.0 r.1) }
         ensures shape { IfOk result (λ r. r.0.shape ≡ shape_of rules.now router.number) }
+        ensures entries { IfOk result (λ r. entries_of r.1 ≡ []) }
     {
         let (plane, keeper) = Plane::open(alloc, shape_of(rules, router))?;
         let agent = Agent {
@@ -117,10 +118,12 @@ impl Agent {
         requires own { IsOwnPlane plane.now self.old }
         requires stands { (rules : TheRules) × (l : Ledger) × (u : Unfinished) × StandsFor self.old rules l u }
         ensures own { IsOwnPlane plane.now self.new }
+        ensures entries { entries_of self.new ≡ entries_of self.old ++ record { page = result; sig = sig.now } ∷ [] }
         ensures page { (rules : TheRules) (l : Ledger) (u : Unfinished) → StandsFor self.old rules l u → result.number ≡ open_page l.account.closings }
         ensures recorded { (rules : TheRules) (l : Ledger) (u : Unfinished) → StandsFor self.old rules l u → StandsFor self.new rules (recorded_in l (open_page l.account.closings) sig.now) u }
     {
         let page = plane.record_alone(&mut self.keeper, sig);
+        self.copied = None;
         self.marked = self.marked.saturating_add(u32::from(self.rules.k));
         page
     }
@@ -129,6 +132,7 @@ impl Agent {
     pub fn transform(&mut self, alloc: Global, page: PageNo, row: &Row) -> Result<(), NoMemory>
         requires near { (rules : TheRules) × (l : Ledger) × (u : Unfinished) × StandsFor self.old rules l u × IsNear rules l page.number row.now }
         ensures own { (plane : PlaneId) → IsOwnPlane plane self.old → IsOwnPlane plane self.new }
+        ensures entries { entries_of self.new ≡ entries_of self.old }
         ensures changed { OnOk result ((rules : TheRules) (l : Ledger) (u : Unfinished) → StandsFor self.old rules l u → StandsFor self.new rules (changed_in l page.number row.now) u) }
         ensures same { OnErr result ((rules : TheRules) (l : Ledger) (u : Unfinished) → StandsFor self.old rules l u → StandsFor self.new rules l u) }
     {

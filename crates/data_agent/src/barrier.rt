@@ -9,7 +9,7 @@ ghost use Rattle.shelved_page.specs.Shelving.{view_of};
 ghost use Rattle.transform_table.specs.Tables.{rows_of_page};
 ghost use Rattle.data_agent.specs.Calls.{MayPass, MayTurn, IsPassed, split_of, left_of, marks_of};
 ghost use Rattle.data_agent.specs.Expiring.{Discards, DiscardsOne, covers_at, IsExpiredBy, expired_with};
-ghost use Rattle.data_agent.specs.Planes.{IsOwnPlane, IsPlaneSame};
+ghost use Rattle.data_agent.specs.Planes.{IsOwnPlane, IsPlaneSame, entries_of};
 ghost use Rattle.data_agent.specs.Standing.{Stands, StandsFor, StandsWhole, StillStands};
 ghost use Rattle.data_agent.specs.Passing.{IsDueBits, IsTicked, StandsForSame};
 
@@ -103,6 +103,7 @@ impl Agent {
         requires later { self.old.catalogue.clock ≤ clock }
         requires stands { (rules : TheRules) × (l : Ledger) × Stands self.old rules l }
         ensures own { IsOwnPlane plane.now self.new }
+        ensures entries { entries_of self.new ≡ entries_of self.old }
         ensures bits { (rules : TheRules) (l : Ledger) (u : Unfinished) → StandsWhole self.old rules l u → IsDueBits rules l.account clock result }
         ensures same { (rules : TheRules) (l : Ledger) (u : Unfinished) → StandsWhole self.old rules l u → StandsWhole self.new rules l u }
         ensures rest { (self.new.catalogue ≡ self.old.catalogue) × (self.new.page ≡ self.old.page) }
@@ -123,6 +124,7 @@ impl Agent {
         requires own { IsOwnPlane plane.now self.old }
         requires ready { MayTurn (StandsWhole self.old) clock }
         ensures own { IsOwnPlane plane.now self.new }
+        ensures entries { entries_of self.new ≡ entries_of self.old }
         ensures turned { OnOk result ((rules : TheRules) (l : Ledger) (u : Unfinished) → StandsWhole self.old rules l u → StandsWhole self.new rules (turned_at l clock) u) }
         ensures recorded { OnErr result ((rules : TheRules) (l : Ledger) (u : Unfinished) → StandsWhole self.old rules l u → StandsForSame self.new rules l) }
     {
@@ -141,6 +143,7 @@ impl Agent {
         requires own { IsOwnPlane plane.now self.old }
         requires ready { MayPass (StandsWhole self.old) clock tick }
         ensures own { IsOwnPlane plane.now self.new }
+        ensures entries { entries_of self.new ≡ entries_of self.old }
         ensures ticked { IfOk result (λ closed. (rules : TheRules) (l : Ledger) (u : Unfinished) → StandsWhole self.old rules l u → IsTicked rules l u clock tick closed self.new) }
         ensures later { OnOk result (self.new.catalogue.clock ≤ clock) }
         ensures recorded { OnErr result ((rules : TheRules) (l : Ledger) (u : Unfinished) → StandsWhole self.old rules l u → StandsForSame self.new rules l) }
@@ -199,6 +202,7 @@ impl Agent {
         requires own { IsOwnPlane plane.now self.old }
         requires ready { MayPass (StandsWhole self.old) clock tick }
         ensures own { IsOwnPlane plane.now self.new }
+        ensures entries { entries_of self.new ≡ entries_of self.old }
         ensures later { H.faults shelf.old ≤ H.faults shelf.new }
         ensures still { H.tells shelf.new ≡ H.tells shelf.old }
         ensures told { IfOk result (λ b. (rules : TheRules) (l : Ledger) (u : Unfinished) → StandsWhole self.old rules l u → IsPassed rules l clock tick b) }
@@ -221,17 +225,9 @@ impl Agent {
         })
     }
 
-    // The copy of the open page is needed by a query alone.
-    fn let_go_of_copy(&mut self)
-        ensures plane { IsPlaneSame self.old self.new }
-        ensures same { StillStands self.old self.new }
-    {
-        self.copied = None;
-    }
-
     /// The barrier's part at this router. First the closed pages that stand in slots are collected. Then the segment's archival
-    /// is finished: of each page that it covers whose bits record was put the rows record is put too, and where that worked
-    /// the page leaves memory. Then a tick closes the open page where it is due, and collects it, and then pages expire, and
+    /// is finished: bits records that it deferred are put, and of each page that it covers whose bits record was put the rows
+    /// record is put too, and where that worked the page leaves memory. Then a tick closes the open page where it is due, and collects it, and then pages expire, and
     /// the shelf's records of these are discarded. The bits of the open page are counted only where as many marks as the
     /// limit were set since the last count, or where it closes.
     pub fn barrier<H: Shelf>(
@@ -245,6 +241,7 @@ impl Agent {
         requires own { IsOwnPlane plane.now self.old }
         requires ready { MayPass (StandsFor self.old) clock tick }
         ensures own { IsOwnPlane plane.now self.new }
+        ensures entries { entries_of self.new ≡ entries_of self.old }
         ensures later { H.faults shelf.old ≤ H.faults shelf.new }
         ensures still { H.tells shelf.new ≡ H.tells shelf.old }
         ensures told { IfOk result (λ b. (rules : TheRules) (l : Ledger) (u : Unfinished) → StandsFor self.old rules l u → IsPassed rules l clock tick b) }
@@ -257,7 +254,6 @@ impl Agent {
         ensures others { OnOk result ((rules : TheRules) (l : Ledger) (u : Unfinished) → StandsFor self.old rules l u → H.tells shelf.old ≡ true → KeepsOthers l.account.router (H.contents shelf.old) (H.contents shelf.new)) }
         ensures recorded { OnErr result ((rules : TheRules) (l : Ledger) (u : Unfinished) → StandsFor self.old rules l u → StandsForSame self.new rules l) }
     {
-        self.let_go_of_copy();
         self.take_all(alloc, plane)?;
         self.pass(alloc, plane, shelf, clock, tick)
     }

@@ -1,4 +1,5 @@
-// The end of a segment's archival: rows records are put, and pages that were put leave memory.
+// The end of a segment's archival: bits records that were deferred are put, then rows records, and pages that were put leave
+// memory.
 //
 // First all puts are made and all memory is taken, which changes nothing of the agent. Then the pages leave memory,
 // which can't fail.
@@ -13,7 +14,7 @@ ghost use Rattle.data_agent.specs.declared.finishing.Settled.{Settled as TheSett
 ghost use Rattle.data_agent.specs.Archiving.{HasClosed};
 ghost use Rattle.data_agent.specs.Finishing.{FinishesOne, FinishesTo, IsFinished, IsSettled, digests_with, settled_by, settled_all, shelved_in, covered_in, pages_put, pages_kept};
 ghost use Rattle.data_agent.specs.Planes.{IsPlaneSame};
-ghost use Rattle.data_agent.specs.Standing.{AreDigests, Stands, StandsWhole, IsBitsDigest};
+ghost use Rattle.data_agent.specs.Standing.{AreDigests, Stands, StandsWhole, IsBitsDigest, digest_of, is_deferred};
 
 use crate::archival::Note;
 use crate::closed_page::{ClosedPage, Whereabouts};
@@ -86,9 +87,9 @@ impl Agent {
         ensures finished { let before = view_of H.tells H.contents H.faults shelf.old in
             let after = view_of H.tells H.contents H.faults shelf.new in
             IfOk result (λ settled. (rules : TheRules) (l : Ledger) → Stands self.now rules l → is_in l.put_before note.now.page.number ≡ false
-            → IsBitsDigest rules l.account note.now.page.number note.now.bits → FinishesOne rules l.account note.now settled before after) }
+            → IsBitsDigest rules l.account note.now.page.number (digest_of note.now.bits) → is_deferred note.now ≡ false → FinishesOne rules l.account note.now settled before after) }
     {
-        let Some(bits) = note.bits else {
+        let Some(bits) = note.bits.digest() else {
             return Ok(Settled {
                 page: note.page,
                 digests: None,
@@ -112,7 +113,8 @@ impl Agent {
         ensures finished { let before = view_of H.tells H.contents H.faults shelf.old in
             let after = view_of H.tells H.contents H.faults shelf.new in
             IfOk result (λ settled. (rules : TheRules) (l : Ledger) → Stands self.now rules l
-            → ((note : TheNote) → Contains notes.now note → (is_in l.put_before note.page.number ≡ false) × IsBitsDigest rules l.account note.page.number note.bits)
+            → ((note : TheNote) → Contains notes.now note → (is_in l.put_before note.page.number ≡ false)
+            × IsBitsDigest rules l.account note.page.number (digest_of note.bits) × (is_deferred note ≡ false))
             → FinishesTo rules l.account notes.now settled.items before after) }
     {
         let mut settled = Vec::new(alloc);
@@ -191,10 +193,11 @@ impl Agent {
         ensures plane { IsPlaneSame self.old self.new }
         ensures same { OnErr result ((rules : TheRules) (l : Ledger) (u : Unfinished) → StandsWhole self.old rules l u → StandsWhole self.new rules l u) }
     {
-        let Some(notes) = &self.noted else {
+        let Some(noted) = &self.noted else {
             return Ok(None);
         };
-        let settled = self.finish_all(alloc, shelf, notes)?;
+        let notes = self.put_all_deferred(alloc, shelf, noted)?;
+        let settled = self.finish_all(alloc, shelf, &notes)?;
         let put = put_pages(alloc, &settled)?;
         let kept = kept_pages(alloc, &settled)?;
         self.settle(&settled);

@@ -9,7 +9,7 @@ ghost use Rattle.page_gate.specs.Slots.{free_count};
 ghost use Rattle.router_account.specs.Account.{Account};
 ghost use Rattle.router_account.specs.Ledger.{Ledger, Unfinished, turned_at};
 ghost use Rattle.data_agent.specs.Calls.{MayTurn};
-ghost use Rattle.data_agent.specs.Planes.{AreTaken, IsOwnPlane, IsPrepared, IsRestSame};
+ghost use Rattle.data_agent.specs.Planes.{AreTaken, IsOwnPlane, IsPrepared, IsRestSame, entries_of};
 ghost use Rattle.data_agent.specs.Standing.{HasPages, StandsAmid, StandsFor, StandsWhole, standing};
 
 use crate::closed_page::{ClosedPage, Whereabouts};
@@ -104,6 +104,7 @@ impl Agent {
         requires own { IsOwnPlane plane.now self.old }
         requires ready { MayTurn (StandsFor self.old) clock }
         ensures own { IsOwnPlane plane.now self.new }
+        ensures entries { entries_of self.new ≡ entries_of self.old }
         ensures page { IfOk result (λ page. (rules : TheRules) (l : Ledger) (u : Unfinished) → StandsFor self.old rules l u → page.number ≡ open_page l.account.closings + 1) }
         ensures turned { OnOk result ((rules : TheRules) (l : Ledger) (u : Unfinished) → StandsFor self.old rules l u → StandsFor self.new rules (turned_at l clock) u) }
         ensures same { OnErr result ((rules : TheRules) (l : Ledger) (u : Unfinished) → StandsFor self.old rules l u → StandsFor self.new rules l u) }
@@ -112,21 +113,26 @@ impl Agent {
         self.catalogue.reserve(alloc, 1)?;
         turn_page(plane, &mut self.keeper);
         self.marked = 0;
+        self.copied = None;
         self.page = self.catalogue.turn(clock);
         Ok(self.page)
     }
 
-    /// Makes ready for a query: collects the closed pages that stand in slots, and copies the open page. Until something is
-    /// recorded or a page is opened, `sight` may borrow them. Takes memory for a page, costs 2^(n-6) loads, and copies no
-    /// closed page. The next barrier lets go of the copy.
+    /// Makes ready for a query: collects the closed pages that stand in slots, and copies the open page where there is no copy
+    /// yet. Until something is recorded or a page is opened, `sight` may borrow them, and the copy stays. Takes memory for a page,
+    /// costs 2^(n-6) loads where it copies, and copies no closed page.
     pub fn prepare(&mut self, alloc: Global, plane: &Plane) -> Result<(), NoMemory>
         requires own { IsOwnPlane plane.now self.old }
         requires stands { (rules : TheRules) × (l : Ledger) × (u : Unfinished) × StandsFor self.old rules l u }
         ensures own { IsOwnPlane plane.now self.new }
+        ensures entries { entries_of self.new ≡ entries_of self.old }
         ensures same { (rules : TheRules) (l : Ledger) (u : Unfinished) → StandsFor self.old rules l u → StandsFor self.new rules l u }
         ensures prepared { OnOk result (IsPrepared self.new) }
     {
         self.take_all(alloc, plane)?;
+        if self.copied.is_some() {
+            return Ok(());
+        }
         let page = self.page;
         let family = hashes(alloc, &self.rules, self.router, page)?;
         let bits = copy_page(alloc, plane, &mut self.keeper, page)?;

@@ -1,7 +1,7 @@
-use Rattle.std.proofs.Common.{arith, ◌∙◌, ap, length, List}
-use Rattle.page_gate.specs.Probes.{marked_set}
-use Rattle.spie_base.specs.declared.Entry.{Entry}
+use Rattle.std.proofs.Common.{arith, ◌∙◌, ap, length}
+use Rattle.bloom_page.specs.Sets.{PageSet}
 use Rattle.data_agent.proofs.Keeping.{kept_probed, only_table, stands_in}
+use Rattle.data_agent.proofs.SameMembers.{marked_members}
 use Rattle.data_agent.proofs.slots.fill_page.Goals as goal
 
 pub fill-requires-clause-alone : goal.fill-requires-clause-alone
@@ -14,7 +14,7 @@ pub returns-clause-plane : goal.returns-clause-plane
 returns-clause-plane c = only_table c.args.keeper.now c.fill.new.keeper c.fill.ensures.probes
 
 pub returns-clause-count : goal.returns-clause-count
-returns-clause-count c = λ entries first last s. c.fill.ensures.exact ∙ ap (λ (es : List Entry). length (marked_set c.args.plane.now.shape es c.args.page.number).members) s.has
+returns-clause-count c = λ entries first last s. c.fill.ensures.exact ∙ ap (λ (set : PageSet). length set.members) (marked_members c.args.plane.now.shape c.args.keeper.now.view.entries entries c.args.page.number s.has)
 
 pub returns-clause-same : goal.returns-clause-same
 returns-clause-same c = λ entries first last s. kept_probed c.args.plane.now.shape c.args.keeper.now c.fill.new.keeper entries first last c.fill.ensures.probes c.fill.ensures.met s

@@ -1,8 +1,5 @@
-use Rattle.data_agent.proofs.Keeping.{kept_probes, probed_bits, probed_table, stands_in}
+use Rattle.data_agent.proofs.Keeping.{kept_probes, probed_bits, probed_table}
 use Rattle.data_agent.proofs.slots.probe_page.Goals as goal
-
-pub probe-requires-clause-stands : goal.probe-requires-clause-stands
-probe-requires-clause-stands c = let (entries, first, last, s, from, to) = c.requires.stands in stands_in c.args.plane.now.shape c.args.keeper.now entries first last s c.args.page.number from to
 
 pub returns-clause-plane : goal.returns-clause-plane
 returns-clause-plane c = probed_table c.args.plane.now.shape c.args.page.number c.args.sig.now c.args.keeper.now c.probe.new.keeper c.probe.result c.probe.ensures.reads

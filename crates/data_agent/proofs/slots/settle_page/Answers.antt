@@ -1,4 +1,4 @@
-use Rattle.data_agent.proofs.Keeping.{kept_settled, settled_table}
+use Rattle.data_agent.proofs.Keeping.{kept_settled, settled_entries, settled_table}
 use Rattle.data_agent.proofs.slots.settle_page.Goals as goal
 
 pub settle-requires-clause-waiting : goal.settle-requires-clause-waiting
@@ -14,3 +14,8 @@ pub returns-clause-plane : goal.returns-clause-plane
 returns-clause-plane c =
     let (entries, first, last, s, from, to) = c.requires.stands in
     settled_table c.args.plane.now.shape c.args.keeper.now c.settle.new.keeper entries first last c.args.page.number c.settle.result s from to c.settle.ensures.before c.settle.ensures.now
+
+pub returns-clause-entries : goal.returns-clause-entries
+returns-clause-entries c =
+    let (entries, first, last, s, from, to) = c.requires.stands in
+    settled_entries c.args.plane.now.shape c.args.keeper.now c.settle.new.keeper entries first last c.args.page.number c.settle.result s from to c.settle.ensures.before c.settle.ensures.now

@@ -1,8 +1,9 @@
-use Rattle.std.proofs.Common.{◌≡◌, ◌+◌, ◌++◌, ◌∷◌, [], ◌∙◌, sym, subst, arith, take, get_or, None}
+use Rattle.std.proofs.Common.{◌≡◌, ◌+◌, ◌++◌, ◌∷◌, [], ◌∙◌, sym, subst, arith, take, get_or}
 use Rattle.std.proofs.lemmas.List.{take_more, get_or_default}
 use Rattle.router_account.specs.Shelves.{ShelfView}
 use Rattle.shelved_page.specs.Shelving.{view_of}
 use Rattle.data_agent.specs.declared.archival.Note.{Note}
+use Rattle.data_agent.specs.declared.archival.NotedBits.TheVariants.{Stored}
 use Rattle.data_agent.specs.Finishing.{FinishesTo}
 use Rattle.data_agent.proofs.Ending.{finishes_more}
 use Rattle.data_agent.proofs.agent.Agent.finish_all.Goals as goal
@@ -12,7 +13,7 @@ loop-note-preserved g c =
     let x : ShelfView = view_of g.H.Shelf.tells g.H.Shelf.contents g.H.Shelf.faults c.args.shelf.now in
     let y : ShelfView = view_of g.H.Shelf.tells g.H.Shelf.contents g.H.Shelf.faults c.loop-note.shelf in
     let z : ShelfView = view_of g.H.Shelf.tells g.H.Shelf.contents g.H.Shelf.faults c.finish_one.new.shelf in
-    let none : Note = record { page = record { number = 0 }; bits = None } in
+    let none : Note = record { page = record { number = 0 }; bits = Stored [] } in
     let note : Note = get_or c.args.notes.now c.loop-note.note-index none in
     let e : take (c.loop-note.note-index + 1) c.args.notes.now ≡ take c.loop-note.note-index c.args.notes.now ++ note ∷ [] = take_more c.args.notes.now c.loop-note.note-index none c.loop-note-test.true in
     record {
@@ -23,5 +24,5 @@ loop-note-preserved g c =
           subst (λ ns. FinishesTo rules m.account ns c.push.new.self.items x z) (sym e)
           (subst (λ ss. FinishesTo rules m.account (take c.loop-note.note-index c.args.notes.now ++ note ∷ []) ss x z) (sym c.in_ok-push.ensures.items)
           (finishes_more rules m.account (take c.loop-note.note-index c.args.notes.now) c.loop-note.settled.items note c.in_ok-finish_one.field-0 x y z (c.loop-note.invariant.finished rules m s each)
-          (c.in_ok-finish_one.ensures.finished rules m s here.0 here.1)));
+          (c.in_ok-finish_one.ensures.finished rules m s here.0 here.1 here.2)));
     }

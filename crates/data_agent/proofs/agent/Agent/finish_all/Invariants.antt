@@ -6,7 +6,7 @@ use Rattle.router_account.specs.Ledger.{Ledger}
 use Rattle.shelved_page.specs.Shelving.{view_of}
 use Rattle.data_agent.specs.declared.archival.Note.{Note}
 use Rattle.data_agent.specs.Finishing.{FinishesTo}
-use Rattle.data_agent.specs.Standing.{Stands, IsBitsDigest}
+use Rattle.data_agent.specs.Standing.{Stands, IsBitsDigest, digest_of, is_deferred}
 use Rattle.data_agent.proofs.agent.Agent.finish_all.Given as goal
 
 -- the notes so far are done
@@ -15,6 +15,6 @@ invariant-loop-note g l = record {
   later : g.H.Shelf.faults l.fn.shelf ≤ g.H.Shelf.faults l.shelf;
   still : g.H.Shelf.tells l.shelf ≡ g.H.Shelf.tells l.fn.shelf;
   finished : (rules : Rules) (m : Ledger) → Stands l.self rules m
-      → ((note : Note) → Contains l.fn.notes note → (is_in m.put_before note.page.number ≡ false) × IsBitsDigest rules m.account note.page.number note.bits)
+      → ((note : Note) → Contains l.fn.notes note → (is_in m.put_before note.page.number ≡ false) × IsBitsDigest rules m.account note.page.number (digest_of note.bits) × (is_deferred note ≡ false))
       → FinishesTo rules m.account (take l.note-index l.notes) l.settled.items (view_of g.H.Shelf.tells g.H.Shelf.contents g.H.Shelf.faults l.fn.shelf) (view_of g.H.Shelf.tells g.H.Shelf.contents g.H.Shelf.faults l.shelf);
 }

@@ -14,7 +14,7 @@ pages-init c =
     let end = s.pages.page in
     record {
       own = c.requires.own;
-      rest = record { catalogue = refl; page = refl; noted = refl };
+      rest = record { catalogue = refl; page = refl; noted = refl; entries = refl };
       here = sym c.standing-from.ensures;
       within = omega (arith, c.standing-from.ensures);
       amid = λ rules m t. t;

@@ -1,5 +1,5 @@
-use Rattle.std.proofs.Common.{refl, ◌∙◌}
-use Rattle.data_agent.proofs.Planes.{kept_at, resident_at, take_needs, taken_at}
+use Rattle.std.proofs.Common.{refl}
+use Rattle.data_agent.proofs.Planes.{kept_at, own_with, resident_at, take_needs, taken_at}
 use Rattle.data_agent.proofs.Steps.{amid_then, items_then, taken_in}
 use Rattle.data_agent.proofs.agent.Agent.take_oldest.Goals as goal
 
@@ -15,7 +15,7 @@ returns-in_err-bits-clause-amid c = λ rules l s.
     (kept_at c.args.plane.now c.args.self.now rules l.account c.requires.own s.pages c.standing.result c.standing.ensures c.take_page.new.keeper c.in_err-bits.ensures.same)
 
 pub returns-clause-own : goal.returns-clause-own
-returns-clause-own c = record { table = c.take_page.ensures.plane ∙ c.requires.own.table; shape = c.requires.own.shape }
+returns-clause-own c = own_with c.args.plane.now c.args.self.now _ c.requires.own c.take_page.ensures.plane refl refl refl refl c.take_page.ensures.entries
 
 pub returns-clause-amid : goal.returns-clause-amid
 returns-clause-amid c = λ rules l s.

@@ -1,75 +1,42 @@
-use Rattle.std.proofs.Common.{◌≡◌, ◌∙◌, sym, subst, ap, refl, inl, inr, false, true, length, arith}
-use Rattle.std.proofs.lemmas.Bool.{cases_lt}
-use Rattle.data_agent.specs.declared.agent.Agent.{Agent}
-use Rattle.data_agent.specs.Watching.{IsLacking, shows_now}
-use Rattle.data_agent.proofs.Windows.{window_is}
-use Rattle.data_agent.proofs.Watching.{seen_by, unseen_by, watched}
-use Rattle.data_agent.proofs.Planes.{for_probed, probed_then}
+use Rattle.std.proofs.Common.{ap}
+use Rattle.data_agent.specs.Planes.{entries_of}
+use Rattle.data_agent.proofs.BesideWatches.{noted_beside, noted_for, noted_keeps, places_anyhow, seen_beside, tells_never, tells_seen, unseen_beside}
 use Rattle.data_agent.proofs.agent.Agent.watch.Goals as goal
 
-pub first-first-requires : goal.first-first-requires
-first-first-requires c = let (rules, l, u, s) = c.requires.stands in (rules, l.account, s.amid.pages)
+pub look_through-requires-clause-places : goal.look_through-requires-clause-places
+look_through-requires-clause-places c = places_anyhow c.args.self.now c.requires.stands
 
-pub pages-init : goal.pages-init
-pages-init c = record {
-  own = c.requires.own;
-  probed = refl;
-  unseen = λ rules m s page near from lt. absurd (omega (arith, c.max-page.ensures, c.first-first.ensures));
-  amid = λ rules m s. s;
-}
+pub returns-clause-entries : goal.returns-clause-entries
+returns-clause-entries c = let (reads, noted, tells) = c.look_through.ensures.watched in ap entries_of noted
 
-pub shows-requires-clause-stands : goal.shows-requires-clause-stands
-shows-requires-clause-stands c =
-    let (rules, l, u, s) = c.requires.stands in
-    let gone : c.pages.self.catalogue.gone ≡ c.args.self.now.catalogue.gone = ap (λ (a : Agent). a.catalogue.gone) c.pages.invariant.probed in
-    let page : c.pages.self.page.number ≡ c.args.self.now.page.number = ap (λ (a : Agent). a.page.number) c.pages.invariant.probed in
-    let here = s.amid.pages.page in
-    let len : length c.args.self.now.catalogue.closings ≡ length l.account.closings = ap length s.amid.pages.closings in
-    (rules, l, c.pages.invariant.amid rules l s.amid, (omega (arith, c.pages.auto.page, c.max-page.ensures, c.first-first.ensures)), (omega (arith, c.pages-test.true, c.window-window.ensures.exists)))
+pub returns-clause-seen : goal.returns-clause-seen
+returns-clause-seen c = λ rules l u s. c.look_through.ensures.seen rules l s.amid
 
-pub returns-then-shows-clause-seen : goal.returns-then-shows-clause-seen
-returns-then-shows-clause-seen c = λ rules l u s.
-    let w = window_is c.args.self.now rules l.account c.args.clock _ _ s.amid.pages c.window-window.ensures.some c.window-window.ensures.exists c.window-window.ensures.exact in
-    sym (seen_by c.args.self.now rules l c.args.clock c.args.sig.now _ _ c.pages.page s.amid w
-    (omega (arith, c.max-page.ensures, c.pages.auto.page)) (omega arith) (omega (arith, c.max-page.ensures, c.pages.auto.page, c.first-first.ensures))
-    (sym (c.shows.ensures.shows rules l (c.pages.invariant.amid rules l s.amid)) ∙ c.if-shows.true))
+pub returns-clause-same : goal.returns-clause-same
+returns-clause-same c = let (reads, noted, tells) = c.look_through.ensures.watched in noted_for c.args.self.now c.look_through.new.self reads noted c.look_through.ensures.amid
 
-pub returns-then-shows-clause-same : goal.returns-then-shows-clause-same
-returns-then-shows-clause-same c = for_probed c.args.self.now c.shows.new.self (probed_then c.args.self.now c.pages.self c.shows.new.self c.pages.invariant.probed c.shows.ensures.probed) (λ rules m s. c.shows.ensures.amid rules m (c.pages.invariant.amid rules m s))
+pub returns-clause-probed_seen : goal.returns-clause-probed_seen
+returns-clause-probed_seen c = λ is.
+    let (reads, noted, tells) = c.look_through.ensures.watched in
+    (reads, noted, tells_seen c.args.self.now reads c.args.clock c.args.sig.now c.look_through.result tells is)
 
-pub pages-preserved : goal.pages-preserved
-pages-preserved c = record {
-  own = c.shows.ensures.own;
-  probed = probed_then c.args.self.now c.pages.self c.shows.new.self c.pages.invariant.probed c.shows.ensures.probed;
-  unseen = λ rules m s page near from lt.
-      elim (cases_lt page c.pages.page) [
-        | inl before ↦ c.pages.invariant.unseen rules m s page near from before
-        | inr here ↦
-            let at : c.pages.page ≡ page = omega arith in
-            subst (λ p. shows_now rules m c.args.sig.now p ≡ false) at (sym (c.shows.ensures.shows rules m (c.pages.invariant.amid rules m s)) ∙ c.if-shows.false)
-      ];
-  amid = λ rules m s. c.shows.ensures.amid rules m (c.pages.invariant.amid rules m s);
-}
+pub returns-clause-probed_unseen : goal.returns-clause-probed_unseen
+returns-clause-probed_unseen c = λ other.
+    let (reads, noted, tells) = c.look_through.ensures.watched in
+    (reads, noted, tells_never c.args.self.now reads c.args.clock c.args.sig.now c.look_through.result tells other)
 
-pub lacks-requires-clause-stands : goal.lacks-requires-clause-stands
-lacks-requires-clause-stands c = let (rules, l, u, s) = c.requires.stands in (rules, l, c.pages.invariant.amid rules l s.amid)
+pub returns-clause-beside_seen : goal.returns-clause-beside_seen
+returns-clause-beside_seen c = λ rules l u away s is.
+    let (reads, noted, tells) = c.look_through.ensures.watched in
+    seen_beside c.args.self.now rules l u away s c.look_through.new.self reads c.args.clock c.args.sig.now noted (tells_seen c.args.self.now reads c.args.clock c.args.sig.now c.look_through.result tells is)
 
-pub returns-then-lacks-clause-seen : goal.returns-then-lacks-clause-seen
-returns-then-lacks-clause-seen c = λ rules l u s.
-    let w = window_is c.args.self.now rules l.account c.args.clock _ _ s.amid.pages c.window-window.ensures.some c.window-window.ensures.exists c.window-window.ensures.exact in
-    sym (watched rules l c.args.clock _ _ c.args.sig.now true w
-    (unseen_by c.args.self.now rules l c.args.clock c.args.sig.now _ _ s.amid w (λ page from to near. c.pages.invariant.unseen rules l s.amid page near from (omega (arith, c.pages-test.false))))
-    (subst (IsLacking rules l c.window-window.result.first.number c.window-window.result.last.number) c.if-lacks.true (c.lacks.ensures rules l (c.pages.invariant.amid rules l s.amid))))
+pub returns-clause-beside_unseen : goal.returns-clause-beside_unseen
+returns-clause-beside_unseen c = λ rules l u away s other.
+    let (reads, noted, tells) = c.look_through.ensures.watched in
+    unseen_beside c.args.self.now rules l u away s reads c.args.clock c.args.sig.now c.look_through.result tells other
 
-pub returns-else-lacks-clause-seen : goal.returns-else-lacks-clause-seen
-returns-else-lacks-clause-seen c = λ rules l u s.
-    let w = window_is c.args.self.now rules l.account c.args.clock _ _ s.amid.pages c.window-window.ensures.some c.window-window.ensures.exists c.window-window.ensures.exact in
-    sym (watched rules l c.args.clock _ _ c.args.sig.now false w
-    (unseen_by c.args.self.now rules l c.args.clock c.args.sig.now _ _ s.amid w (λ page from to near. c.pages.invariant.unseen rules l s.amid page near from (omega (arith, c.pages-test.false))))
-    (subst (IsLacking rules l c.window-window.result.first.number c.window-window.result.last.number) c.if-lacks.false (c.lacks.ensures rules l (c.pages.invariant.amid rules l s.amid))))
+pub returns-clause-beside_same : goal.returns-clause-beside_same
+returns-clause-beside_same c = let (reads, noted, tells) = c.look_through.ensures.watched in noted_beside c.args.self.now c.look_through.new.self reads noted
 
-pub returns-then-lacks-clause-same : goal.returns-then-lacks-clause-same
-returns-then-lacks-clause-same c = for_probed c.args.self.now c.pages.self c.pages.invariant.probed c.pages.invariant.amid
-
-pub returns-else-lacks-clause-same : goal.returns-else-lacks-clause-same
-returns-else-lacks-clause-same c = for_probed c.args.self.now c.pages.self c.pages.invariant.probed c.pages.invariant.amid
+pub returns-clause-reads : goal.returns-clause-reads
+returns-clause-reads c = let (reads, noted, tells) = c.look_through.ensures.watched in noted_keeps c.args.self.now c.look_through.new.self reads noted

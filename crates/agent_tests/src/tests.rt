@@ -1,0 +1,2 @@
+// An agent beside passes.
+mod passes;
