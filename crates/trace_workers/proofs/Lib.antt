@@ -1,0 +1,12 @@
+pub mod Turns
+pub mod Growing
+pub mod SharedOut
+pub mod RisingTurns
+pub mod AllShares
+pub mod Segments
+pub mod EachJob
+pub mod Dealt
+pub mod Shareable
+pub mod Readiness
+pub mod Getting
+pub mod Given

@@ -1,0 +1,5 @@
+pub mod Records
+pub mod Jobs
+pub mod Dealing
+pub mod Columns
+pub mod Laws
