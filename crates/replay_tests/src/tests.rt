@@ -1,3 +1,6 @@
+// Replays by one worker, and lines that are held among several.
+mod held_lines;
+
 use page_shelf::MemShelf;
 use spie_base::PageNo;
 use std::rt::HostRuntime;

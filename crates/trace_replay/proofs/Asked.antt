@@ -46,8 +46,10 @@ use Rattle.trace_replay.specs.Barriers.{PrintsPending}
 use Rattle.trace_replay.specs.Printing.{splits_of, lefts_of}
 use Rattle.trace_replay.specs.Segments.{Splits, filled, Pending, pending_of, pending_items}
 use Rattle.trace_replay.specs.Sights.{IsSightAt, AreSights}
-use Rattle.trace_replay.specs.Standing.{Stands, AreFew, IsPrinted, IsRight, IsKeptOn, IsNext, pending_at}
+use Rattle.trace_replay.specs.Standing.{Way, Stands, AreFew, IsPrinted, IsRight, IsKeptOn, IsNext, pending_at}
 use Rattle.trace_replay.proofs.Closes.{at, here, barrier_paid, left_ok, right_behind, shelf_behind, stands_closed, held_now, first_behind}
+use Rattle.trace_replay.specs.Yards.{AllKeepEntries}
+use Rattle.trace_replay.proofs.Answered.{alone_of}
 use Rattle.trace_replay.proofs.Begun.{possible}
 use Rattle.trace_replay.proofs.Filled.{moment_of, clock_filled}
 use Rattle.trace_replay.proofs.Nets.{AgreeBelow, flood_same}
@@ -77,8 +79,8 @@ few_more before after n m l few more =
     let e = more.nodes in let f = more.edges in let g = more.unknown in let h = more.clear in
     record { nodes = omega arith; edges = omega arith; unknown = omega arith; clear = omega arith }
 
-module _ {A S : Type 0} (stands : Standing A) (shown : S → Shown) (told : S → Told) (t : Trace) (start : ShelfView) (history seg : History) (agents after : List A) (s : State) (was mid now : ShelfView)
-    (old : Stands stands t start history seg agents s was) (barriers : List Barrier) (all : PassesAll stands s.clock false agents after barriers was mid)
+module _ {A S : Type 0} (way : Way A) (stands : Standing A) (shown : S → Shown) (told : S → Told) (t : Trace) (start : ShelfView) (history seg : History) (agents after : List A) (s : State) (was mid now : ShelfView)
+    (old : Stands way stands t start history seg agents s was) (barriers : List Barrier) (all : PassesAll stands s.clock false agents after barriers was mid)
     (time : ℕ) (sights : List S) (sees : SeesAll stands shown told time after sights mid now) where
   abbrev f : Splits
   f = splits_of barriers
@@ -107,7 +109,7 @@ module _ {A S : Type 0} (stands : Standing A) (shown : S → Shown) (told : S �
 
   stand_after : AllStand stands (rules_of t) behind (λ r. nothing_unfinished) after
   stand_after = record {
-    each = λ r d l. (at stands t start history seg agents after s was mid old s.clock false barriers all r d (subst (λ (n : ℕ). r < n) count_after l)).stands_now;
+    each = λ r d l. (at way stands t start history seg agents after s was mid old s.clock false barriers all r d (subst (λ (n : ℕ). r < n) count_after l)).stands_now;
     numbered = λ r. passed_router (rules_of t r) (before_of r) s.clock false (barrier_at barriers r) ∙ account_router (rules_of t) r F;
   }
 
@@ -142,7 +144,7 @@ module _ {A S : Type 0} (stands : Standing A) (shown : S → Shown) (told : S �
     link : (r : ℕ) → r < count t → ledger (rules_of t) r G ≡ behind r
     link r l =
         ledger_queried (count t) (rules_of t) r f seg history old.ordered.inner old.ordered.once old.ordered.barred (barrier_at barriers r).archived refl
-        (here stands t start history seg agents after s was mid old s.clock false barriers all r l).told.archived line.number s.clock query (lefts_of barriers) clock_now
+        (here way stands t start history seg agents after s was mid old s.clock false barriers all r l).told.archived line.number s.clock query (lefts_of barriers) clock_now
 
     read_ok : AreAllRead (count t) (rules_of t) G query
     read_ok r l =
@@ -158,7 +160,7 @@ module _ {A S : Type 0} (stands : Standing A) (shown : S → Shown) (told : S �
 
     -- the shelf still holds the records when the query reads them
     held_mid : start.tells ≡ true → AllHold (length after) (rules_of t) mid.contents behind
-    held_mid tells q m = held_now stands t start history seg agents after s was mid old s.clock false barriers all (old.shelf.still ∙ tells) tells q (subst (λ (k : ℕ). q < k) count_after m)
+    held_mid tells q m = held_now way stands t start history seg agents after s was mid old s.clock false barriers all (old.shelf.still ∙ tells) tells q (subst (λ (k : ℕ). q < k) count_after m)
 
     true_ok : start.tells ≡ true → IsTrueQuery (count t) (rules_of t) G query
     true_ok tells r l =
@@ -205,31 +207,31 @@ module _ {A S : Type 0} (stands : Standing A) (shown : S → Shown) (told : S �
         let lost = sum_over n (λ r. failures (reads r)) in
         let P : ℕ → Type 0 = λ k. RoseBy (sum_over k (λ r. failures (reading_at told sights r))) mid.faults now.faults in
         rose_less ((fault_marks n F + lefts) + lost) (fault_marks n F + (lefts + lost)) start.faults now.faults
-        (rose_add (fault_marks n F + lefts) lost start.faults mid.faults now.faults (barrier_paid stands t start history seg agents after s was mid old s.clock false barriers all) (subst P count_after sees.paid))
+        (rose_add (fault_marks n F + lefts) lost start.faults mid.faults now.faults (barrier_paid way stands t start history seg agents after s was mid old s.clock false barriers all) (subst P count_after sees.paid))
         (omega arith)
 
     event_is : IsEventOf t.sigs line.what event
     event_is = let W : What → Type 0 = λ w. IsEventOf t.sigs w event in subst W (sym is) (refl, known, refl)
 
-    events_right : IsRight t G []
-    events_right = right_behind stands t start history seg agents after s was mid old s.clock false barriers all line.number event refl link tt tt
-        (read_ok, left_ok stands t start history seg agents after s was mid old s.clock false barriers all line.number event refl link) digest_ok
+    events_right : IsRight way.workers t G []
+    events_right = right_behind way stands t start history seg agents after s was mid old s.clock false barriers all line.number event refl link tt tt
+        (read_ok, left_ok way stands t start history seg agents after s was mid old s.clock false barriers all line.number event refl link) digest_ok
 
     shelf_after : IsKeptOn t G [] (λ r. nothing_unfinished) start now
-    shelf_after = shelf_behind stands t start history seg agents after s was mid old s.clock false barriers all line.number event refl link now sees.later sees.still sees.unchanged query_paid true_ok faults_ok
+    shelf_after = shelf_behind way stands t start history seg agents after s was mid old s.clock false barriers all line.number event refl link now sees.later sees.still sees.unchanged query_paid true_ok faults_ok
 
     -- the sights of all routers, where the lines before this one are done
-    pub sights_are : (before upto later : List Line) → t.lines ≡ upto ++ later → upto ≡ before ++ line ∷ [] → IsHistoryOf t.sigs before F → AreSights shown told t line.number sights (record { shelf_before = start; shelf_after = now })
-    sights_are before upto later lines_are last history_of = record {
+    pub sights_are : way.workers ≡ 1 → (before upto later : List Line) → t.lines ≡ upto ++ later → upto ≡ before ++ line ∷ [] → IsHistoryOf t.sigs before F → AreSights shown told t line.number sights (record { shelf_before = start; shelf_after = now })
+    sights_are alone before upto later lines_are last history_of = record {
       upto = upto;
       later = later;
       lines_are = lines_are;
       before = F;
       query = query;
       left = lefts_of barriers;
-      sequential = events_right.sequential (λ r. no_split);
-      watched = events_right.watched (λ r. no_split);
-      done = possible t upto G (λ r. nothing_unfinished) start now (before, line, last, refl, event_is, history_of) events_right shelf_after;
+      sequential = (alone_of way.workers t G [] alone events_right.lines).sequential (λ r. no_split);
+      watched = (alone_of way.workers t G [] alone events_right.lines).watched (λ r. no_split);
+      done = possible way.workers t upto G (λ r. nothing_unfinished) start now (before, line, last, refl, event_is, history_of) events_right shelf_after;
       count_is = sees.count ∙ count_after;
       each = λ r d l.
           let P : S → Type 0 = λ x. IsSightAt (rules_of t) G query r (shown x) (told x) in
@@ -241,7 +243,7 @@ module _ {A S : Type 0} (stands : Standing A) (shown : S → Shown) (told : S �
         (ends : (a b : ℕ) → IsTrue (is_linked t.topology.links a b) → b < count t) (graph : Graph)
         (flood : IsFlood (net_of shown sights t.topology) (record { router = router; sig = sig }) graph) (mid_s new : State)
         (pends : PrintsPending t barriers s mid_s)
-        (prints : PrintsQuery t (query_items told (count t) barriers sights line.number graph) graph mid_s new) where
+        (prints : PrintsQuery t (query_items told (count t) barriers sights line.number graph) graph mid_s new) (keep : AllKeepEntries way.entries agents after) where
       agree : AgreeBelow (count t) (net_of shown sights t.topology) (net_at (rules_of t) t.topology G query)
       agree = record {
         hit = λ n h. read_of (λ (x : S). (shown x).hit n.sig) false n.router.number h ∙ (sight_ok n.router.number h).hit n.sig;
@@ -319,30 +321,30 @@ module _ {A S : Type 0} (stands : Standing A) (shown : S → Shown) (told : S �
             few = few_more s.totals new.totals (length s.report.items) (length new.report.items) (omega (arith, e1, up)) p.few (subst M pends.totals prints.more);
           }
 
-      pub query_closes : (g : Splits) × (e : Event) × IsEventOf t.sigs line.what e × Stands stands t start (moment_of line.number e ∷ filled g seg history) [] after new now
+      pub query_closes : (g : Splits) × (e : Event) × IsEventOf t.sigs line.what e × Stands way stands t start (moment_of line.number e ∷ filled g seg history) [] after new now
       query_closes =
           let T : ℕ → Type 0 = λ c. c < 2 ^ 48 in (
             f,
             event,
             event_is,
-            stands_closed stands t start history seg agents after s was mid old s.clock false barriers all line.number event refl link new now
-                (prints.clock ∙ pends.clock ∙ sym clock_now) (subst T (sym (prints.clock ∙ pends.clock)) old.clock_fits) (first_behind stands t start history seg agents after s was mid old s.clock false barriers all (moment_of line.number event) mid_s new pends prints.first) (prints.answers ∙ pends.answers) tt
-                events_right printed shelf_after,
+            stands_closed way stands t start history seg agents after s was mid old s.clock false barriers all line.number event refl link new now
+                (prints.clock ∙ pends.clock ∙ sym clock_now) (subst T (sym (prints.clock ∙ pends.clock)) old.clock_fits) (first_behind way stands t start history seg agents after s was mid old s.clock false barriers all (moment_of line.number event) mid_s new pends prints.first) (prints.answers ∙ pends.answers) tt
+                keep events_right printed shelf_after,
           )
 
 -- ---- what the calls require
 
-pub agents_past : {A : Type 0} (stands : Standing A) (t : Trace) (line : Line) (agents after : List A) (s : State) (was mid : ShelfView) (ready : IsNext stands t line agents s was) (barriers : List Barrier) → PassesAll stands s.clock false agents after barriers was mid
+pub agents_past : {A : Type 0} (way : Way A) (stands : Standing A) (t : Trace) (line : Line) (agents after : List A) (s : State) (was mid : ShelfView) (ready : IsNext way stands t line agents s was) (barriers : List Barrier) → PassesAll stands s.clock false agents after barriers was mid
     → (time : ℕ) → time ≤ s.clock → All (IsPast stands time) after
-agents_past stands t line agents after s was mid ready barriers all time up k d l =
+agents_past way stands t line agents after s was mid ready barriers all time up k d l =
     let old = ready.3 in
     let f = splits_of barriers in
     let before_of : ℕ → Ledger = λ r. ledger (rules_of t) r (filled f ready.2 ready.1) in
     let l0 : k < count t = subst (λ (n : ℕ). k < n) (all.same ∙ old.count_is) l in
-    (rules_of t k, passed_by (rules_of t) s.clock false barriers before_of k, nothing_unfinished, (at stands t ready.0 ready.1 ready.2 agents after s was mid old s.clock false barriers all k d l0).stands_now, up)
+    (rules_of t k, passed_by (rules_of t) s.clock false barriers before_of k, nothing_unfinished, (at way stands t ready.0 ready.1 ready.2 agents after s was mid old s.clock false barriers all k d l0).stands_now, up)
 
-pub router_exists : {A : Type 0} (stands : Standing A) (t : Trace) (line : Line) (agents : List A) (s : State) (now : ShelfView) (router : RouterId) (packet time : ℕ) → line.what ≡ what.Query router packet time → IsNext stands t line agents s now → (router.number < count t) × (time ≤ s.clock)
-router_exists stands t line agents s now router packet time is ready =
+pub router_exists : {A : Type 0} (way : Way A) (stands : Standing A) (t : Trace) (line : Line) (agents : List A) (s : State) (now : ShelfView) (router : RouterId) (packet time : ℕ) → line.what ≡ what.Query router packet time → IsNext way stands t line agents s now → (router.number < count t) × (time ≤ s.clock)
+router_exists way stands t line agents s now router packet time is ready =
     let P : What → Type 0 = λ w. IsWithin (count t) (length t.sigs) w in
     let Q : What → Type 0 = λ w. FitsClock s.clock w in
     ((subst P is ready.4.within).0, subst Q is ready.4.timed)

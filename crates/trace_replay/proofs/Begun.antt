@@ -1,5 +1,5 @@
 -- How a replay begins and ends.
-use Rattle.std.proofs.Common.{ℕ, ◌≡◌, ◌<◌, ◌+◌, ◌-◌, ◌∷◌, [], ◌∙◌, Bool, true, cond, List, length, get_or, take, sym, ap, refl, subst, arith}
+use Rattle.std.proofs.Common.{ℕ, ◌≡◌, ◌<◌, ◌+◌, ◌-◌, ◌∷◌, [], ◌++◌, ◌∙◌, Bool, true, false, ◌==◌, List, length, get_or, take, sym, ap, refl, subst, arith, append-nil}
 use Rattle.std.specs.Prelude.{slice_get, Some}
 use Rattle.std.proofs.Math.Seq.{take-length}
 use Rattle.spie_base.proofs.Membership.{has_none}
@@ -13,32 +13,33 @@ use Rattle.trace_format.specs.declared.Trace.{Trace}
 use Rattle.trace_format.specs.Sound.{IsSound, AreTimed}
 use Rattle.router_account.specs.Ledger.{Unfinished, first_ledger, nothing_unfinished, no_split}
 use Rattle.router_account.specs.Shelves.{ShelfView}
-use Rattle.data_agent.specs.Laws.{EntriesAre}
 use Rattle.data_agent.specs.Planes.{entries_of}
 use Rattle.data_agent.specs.Standing.{StandsFor}
 use Rattle.data_agent.specs.declared.Agent.{Agent}
 use Rattle.trace_history.specs.declared.Totals.{Totals}
-use Rattle.trace_history.specs.History.{History, IsHistoryOf, account}
-use Rattle.trace_history.specs.Ledgers.{ledger}
+use Rattle.trace_history.specs.History.{History, IsHistoryOf}
 use Rattle.trace_history.specs.Outcomes.{fault_marks}
-use Rattle.trace_history.specs.Receipts.{segment}
+use Rattle.trace_history.specs.Receipts.{IsLegal}
 use Rattle.trace_history.specs.Replay.{IsPossible}
 use Rattle.trace_history.specs.Routers.{count, rules_of, sum_over}
-use Rattle.trace_history.specs.Workers.{YardView, IsYardOf, IsReplayedBy}
-use Rattle.trace_history.proofs.YardFacts.{pages_view, yard_alone, replayed_alone}
+use Rattle.trace_history.specs.Workers.{YardView, AreAnswered, IsYardOf, IsReplayedBy, gathered}
+use Rattle.trace_history.proofs.Sequential.{sequential_is_legal}
+use Rattle.trace_history.proofs.YardFacts.{pages_view}
 use Rattle.trace_replay.specs.declared.state.Answer.{Answer}
 use Rattle.trace_replay.specs.declared.state.State.{State}
-use Rattle.trace_replay.specs.Agents.{Standing, AllStand}
+use Rattle.trace_replay.specs.Agents.{Standing}
 use Rattle.trace_replay.specs.Loop.{HasDone}
-use Rattle.trace_replay.specs.Segments.{Splits, filled, is_barrier_line, numbered, IsBarred}
-use Rattle.trace_replay.specs.Standing.{Stands, IsBegun, IsRight, IsKeptOn, AreFew}
-use Rattle.trace_replay.specs.Yards.{AreBeside, yard_view, yard_views}
+use Rattle.trace_replay.specs.Segments.{Splits, filled, is_barrier_line, numbered}
+use Rattle.trace_replay.specs.Standing.{Way, Stands, IsBegun, AreLinesRight, AreGathered, IsRight, IsKeptOn, AreFew}
+use Rattle.trace_replay.specs.Yards.{AreBeside, by_workers, yard_view, yard_views}
+use Rattle.trace_replay.proofs.Answered.{right_begun}
+use Rattle.trace_replay.proofs.Gathering.{worked_none}
 use Rattle.trace_replay.proofs.Beside.{length_views, view_there}
 use Rattle.trace_replay.proofs.Sums.{rose_less, rose_none, sum_none, get_at, some_of}
 
-pub stands_begun : {A : Type 0} (stands : Standing A) (t : Trace) (agents : List A) (s : State) (now : ShelfView) → length agents ≡ count t
-    → ((r : ℕ) (d : A) → r < count t → stands (get_or agents r d) (rules_of t r) (first_ledger r) nothing_unfinished) → IsBegun t s → Stands stands t now [] [] agents s now
-stands_begun stands t agents s now count_is first begun = record {
+pub stands_begun : {A : Type 0} (way : Way A) (stands : Standing A) (t : Trace) (agents : List A) (s : State) (now : ShelfView) → length agents ≡ count t
+    → ((r : ℕ) (d : A) → r < count t → stands (get_or agents r d) (rules_of t r) (first_ledger r) nothing_unfinished) → ((r : ℕ) (d : A) → r < count t → way.entries (get_or agents r d) ≡ []) → IsBegun t s → Stands way stands t now [] [] agents s now
+stands_begun way stands t agents s now count_is first empty begun = record {
   count_is = count_is;
   clock_is = begun.clock;
   clock_fits = let e = begun.clock in omega (arith, e);
@@ -49,7 +50,8 @@ stands_begun stands t agents s now count_is first begun = record {
   us_closed = λ f r x h. absurd (has_none x h);
   agents_stand = λ f. record { each = λ r d l. first r d (subst (λ (n : ℕ). r < n) count_is l); numbered = λ r. refl };
   ordered = record { inner = tt; once = tt; barred = tt; forward = tt };
-  right = record { sequential = λ f. tt; watched = λ f. tt; allowed_before = tt; allowed = λ f hyp. tt; same_digests = tt };
+  gathered_are = λ r d l. empty r d l ∙ sym (worked_none way.workers r);
+  right = record { lines = right_begun (way.workers == 1) way.workers t; allowed_before = tt; allowed = λ f hyp. tt; same_digests = tt };
   printed = record {
     items = Head ∷ [];
     answered = refl;
@@ -72,8 +74,8 @@ stands_begun stands t agents s now count_is first begun = record {
   };
 }
 
-pub done_begun : {A : Type 0} (stands : Standing A) (t : Trace) (agents : List A) (s : State) (now : ShelfView) → IsSound t → IsBegun t s → Stands stands t now [] [] agents s now → HasDone stands t now 0 agents s now
-done_begun stands t agents s now sound begun stood =
+pub done_begun : {A : Type 0} (way : Way A) (stands : Standing A) (t : Trace) (agents : List A) (s : State) (now : ShelfView) → IsSound t → IsBegun t s → Stands way stands t now [] [] agents s now → HasDone way stands t now 0 agents s now
+done_begun way stands t agents s now sound begun stood =
     let T : ℕ → Type 0 = λ c. AreTimed c t.lines in
     record {
       history = [];
@@ -88,9 +90,9 @@ done_begun stands t agents s now sound begun stood =
     }
 
 -- a history up to a barrier is one that its lines and a shelf may have
-pub possible : (t : Trace) (lines : List Line) (history : History) (us : ℕ → Unfinished) (start now : ShelfView) → IsHistoryOf t.sigs lines history
-    → IsRight t history [] → IsKeptOn t history [] us start now → IsPossible t lines start now history
-possible t lines history us start now lines_are right kept = record {
+pub possible : (W : ℕ) (t : Trace) (lines : List Line) (history : History) (us : ℕ → Unfinished) (start now : ShelfView) → IsHistoryOf t.sigs lines history
+    → IsRight W t history [] → IsKeptOn t history [] us start now → IsPossible t lines start now history
+possible W t lines history us start now lines_are right kept = record {
   lines_are = lines_are;
   allowed = right.allowed_before;
   same_digests = right.same_digests;
@@ -103,7 +105,7 @@ possible t lines history us start now lines_are right kept = record {
 }
 
 -- the last line is the end
-last_closes : (t : Trace) (d : Line) → IsSound t → is_barrier_line (get_or t.lines (length t.lines - 1) d).what ≡ true
+pub last_closes : (t : Trace) (d : Line) → IsSound t → is_barrier_line (get_or t.lines (length t.lines - 1) d).what ≡ true
 last_closes t d sound =
     let some = sound.ended.some in
     let i = length t.lines - 1 in
@@ -112,23 +114,17 @@ last_closes t d sound =
     let last : i + 1 ≡ length t.lines = omega (arith, some) in
     ap is_barrier_line ((sound.ended.last i line (get_at t.lines i d within)).1 last)
 
--- nothing is behind a barrier
-none_behind : (history : History) → IsBarred history → segment history ≡ []
-none_behind [] h = refl
-none_behind (moment ∷ history) h = ap (λ (b : Bool). cond b [] (moment ∷ segment history)) h
-
 -- the yard of a history that is done
-module _ (t : Trace) (history : History) (planes : List PlaneId) (agents : List Agent) (us : ℕ → Unfinished) (beside : AreBeside planes agents) (count_is : length agents ≡ count t)
-    (shapes : (r : ℕ) (p : PlaneId) → r < count t → (get_or planes r p).shape ≡ shape_of (rules_of t r) r)
-    (all : AllStand StandsFor (rules_of t) (λ r. ledger (rules_of t) r history) us agents) (entries : EntriesAre) (barred : IsBarred history) where
-  view_is : (r : ℕ) (p : PlaneId) (a : Agent) → r < count t → yard_view (get_or planes r p) (get_or agents r a) ≡ record { shape = shape_of (rules_of t r) r; entries = (account (rules_of t) r history).entries }
+module _ (W : ℕ) (t : Trace) (history : History) (planes : List PlaneId) (agents : List Agent) (beside : AreBeside planes agents) (count_is : length agents ≡ count t)
+    (shapes : (r : ℕ) (p : PlaneId) → r < count t → (get_or planes r p).shape ≡ shape_of (rules_of t r) r) (gathered_are : AreGathered (by_workers W) t history [] agents) where
+  view_is : (r : ℕ) (p : PlaneId) (a : Agent) → r < count t → yard_view (get_or planes r p) (get_or agents r a) ≡ record { shape = shape_of (rules_of t r) r; entries = gathered W r history }
   view_is r p a l =
-      let within : r < length agents = omega (arith, l, count_is) in
       let E : PageShape → Type 0 = λ shape. yard_view (get_or planes r p) (get_or agents r a) ≡ record { shape = shape; entries = entries_of (get_or agents r a) } in
       subst E (shapes r p l) refl
-      ∙ ap (λ (es : List Entry). pages_view (shape_of (rules_of t r) r) es) (entries (get_or agents r a) (rules_of t r) (ledger (rules_of t) r history) (us r) (all.each r a within))
+      ∙ ap (λ (es : List Entry). pages_view (shape_of (rules_of t r) r) es)
+      (gathered_are r a l ∙ ap (λ (es : List Entry). gathered W r history ++ es) (worked_none W r) ∙ append-nil (gathered W r history))
 
-  some_view : (r : ℕ) → r < count t → slice_get (yard_views planes agents) r ≡ Some (record { shape = shape_of (rules_of t r) r; entries = (account (rules_of t) r history).entries })
+  some_view : (r : ℕ) → r < count t → slice_get (yard_views planes agents) r ≡ Some (record { shape = shape_of (rules_of t r) r; entries = gathered W r history })
   some_view r l =
       let within : r < length agents = omega (arith, l, count_is) in
       let c = beside.count in
@@ -136,20 +132,32 @@ module _ (t : Trace) (history : History) (planes : List PlaneId) (agents : List 
       let a = some_of agents r within in
       view_there planes agents r p a c within ∙ ap (λ (v : YardView). Some v) (view_is r p a l)
 
-  pub yard_left : IsYardOf 1 t history (yard_views planes agents)
-  yard_left = yard_alone t history (yard_views planes agents) (none_behind history barred) (length_views planes agents beside.count ∙ count_is) some_view
+  pub yard_left : IsYardOf W t history (yard_views planes agents)
+  yard_left = record { size = length_views planes agents beside.count ∙ count_is; each = some_view }
 
-pub replayed : (t : Trace) (start now : ShelfView) (d : Line) (planes : List PlaneId) (agents : List Agent) (s : State) (text : List ℕ) → IsSound t → HasDone StandsFor t start (length t.lines) agents s now → text ≡ s.report.items
-    → AreBeside planes agents → ((r : ℕ) (p : PlaneId) → r < count t → (get_or planes r p).shape ≡ shape_of (rules_of t r) r) → EntriesAre
-    → IsReplayedBy 1 t text s.totals (record { shelf_before = start; shelf_after = now }) (yard_views planes agents)
-replayed t start now d planes agents s text sound done is beside shapes entries =
+-- lines that are right are answered as those of W workers
+answered_as : (alone : Bool) (W : ℕ) (t : Trace) (history : History) → AreLinesRight alone W t history [] → IsLegal W (rules_of t) history × AreAnswered alone (rules_of t) history
+answered_as true W t history right =
+    let f : Splits = λ r. no_split in (sequential_is_legal W (rules_of t) history (right.sequential f), (right.sequential f, right.watched f))
+answered_as false W t history right = (right.legal, right.between)
+
+-- all lines are done
+pub replayed : (W : ℕ) (t : Trace) (start now : ShelfView) (d : Line) (planes : List PlaneId) (agents : List Agent) (s : State) (text : List ℕ) → IsSound t → HasDone (by_workers W) StandsFor t start (length t.lines) agents s now
+    → text ≡ s.report.items → AreBeside planes agents → ((r : ℕ) (p : PlaneId) → r < count t → (get_or planes r p).shape ≡ shape_of (rules_of t r) r)
+    → IsReplayedBy W t text s.totals (record { shelf_before = start; shelf_after = now }) (yard_views planes agents)
+replayed W t start now d planes agents s text sound done is beside shapes =
     let none : done.seg ≡ [] = done.closed d sound.ended.some (last_closes t d sound) in
-    let S : History → Type 0 = λ seg. Stands StandsFor t start done.history seg agents s now in
+    let S : History → Type 0 = λ seg. Stands (by_workers W) StandsFor t start done.history seg agents s now in
     let L : History → Type 0 = λ seg. (f : Splits) → IsHistoryOf t.sigs (take (length t.lines) t.lines) (filled f seg done.history) in
-    let W : List Line → Type 0 = λ ls. IsHistoryOf t.sigs ls done.history in
+    let H : List Line → Type 0 = λ ls. IsHistoryOf t.sigs ls done.history in
     let stood = subst S none done.stood in
     let f : Splits = λ r. no_split in
-    replayed_alone t text s.totals (record { shelf_before = start; shelf_after = now }) (yard_views planes agents) done.history (stood.right.sequential f) (stood.right.watched f)
-    (possible t t.lines done.history stood.us start now (subst W (take-length t.lines) (subst L none done.lines_are f)) stood.right stood.shelf)
-    (record { items = stood.printed.items; answered = stood.printed.answered; text_is = is ∙ stood.printed.report_is; totals_are = stood.printed.totals_are })
-    (yard_left t done.history planes agents stood.us beside stood.count_is shapes (stood.agents_stand f) entries stood.ordered.barred)
+    let answered = answered_as (W == 1) W t done.history stood.right.lines in
+    record {
+      history = done.history;
+      legal = answered.0;
+      answered = answered.1;
+      done = possible W t t.lines done.history stood.us start now (subst H (take-length t.lines) (subst L none done.lines_are f)) stood.right stood.shelf;
+      report = record { items = stood.printed.items; answered = stood.printed.answered; text_is = is ∙ stood.printed.report_is; totals_are = stood.printed.totals_are };
+      yard_is = yard_left W t done.history planes agents beside stood.count_is shapes stood.gathered_are;
+    }

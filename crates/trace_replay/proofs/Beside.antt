@@ -1,5 +1,5 @@
 -- Agents beside their planes, and what is seen of a yard.
-use Rattle.std.proofs.Common.{ℕ, zero, suc, ◌≡◌, ◌≢◌, ◌<◌, ◌+◌, ◌^◌, ◌∷◌, [], ◌++◌, ◌∙◌, ⊎_elim, List, length, get_or, set, sym, ap, refl, subst, arith, length-append, length-set}
+use Rattle.std.proofs.Common.{ℕ, zero, suc, ◌≡◌, ◌≢◌, ◌<◌, ◌+◌, ◌∷◌, [], ◌++◌, ◌∙◌, ⊎_elim, List, length, get_or, set, sym, ap, refl, subst, arith, length-append, length-set}
 use Rattle.std.specs.Prelude.{slice_get, Some}
 use Rattle.std.proofs.lemmas.Grind.{get_or-set_at}
 use Rattle.std.proofs.lemmas.List.{get_or-set_other}
@@ -10,7 +10,6 @@ use Rattle.router_account.specs.Ledger.{first_ledger, nothing_unfinished}
 use Rattle.data_agent.specs.Planes.{IsOwnPlane, entries_of}
 use Rattle.data_agent.specs.Standing.{StandsFor}
 use Rattle.data_agent.specs.declared.Agent.{Agent}
-use Rattle.trace_history.specs.Workers.{YardView}
 use Rattle.trace_replay.specs.Yards.{AreBeside, AreOpened, yard_view, yard_views}
 use Rattle.trace_replay.proofs.Sums.{same_or, each_push, get_push_same, get_push_other}
 
@@ -65,12 +64,13 @@ beside_push planes agents plane agent so own = record {
 
 -- a router more is opened
 pub opened_push : (rules : Rules) (n : ℕ) (planes : List PlaneId) (agents : List Agent) (plane : PlaneId) (agent : Agent) → AreOpened rules n planes agents
-    → IsOwnPlane plane agent → plane.shape ≡ shape_of rules n → StandsFor agent rules (first_ledger n) nothing_unfinished → AreOpened rules (n + 1) (planes ++ plane ∷ []) (agents ++ agent ∷ [])
-opened_push rules n planes agents plane agent so own shape first = record {
+    → IsOwnPlane plane agent → plane.shape ≡ shape_of rules n → StandsFor agent rules (first_ledger n) nothing_unfinished → entries_of agent ≡ [] → AreOpened rules (n + 1) (planes ++ plane ∷ []) (agents ++ agent ∷ [])
+opened_push rules n planes agents plane agent so own shape first empty = record {
   count_is = length-append agents (agent ∷ []) ∙ ap (λ (k : ℕ). k + 1) so.count_is;
   beside = beside_push planes agents plane agent so.beside own;
   shapes = let P : ℕ → PlaneId → Type 0 = λ r p. p.shape ≡ shape_of rules r in each_push P planes plane n (so.beside.count ∙ so.count_is) so.shapes shape;
   first = let P : ℕ → Agent → Type 0 = λ r a. StandsFor a rules (first_ledger r) nothing_unfinished in each_push P agents agent n so.count_is so.first first;
+  empty = let P : ℕ → Agent → Type 0 = λ r a. entries_of a ≡ [] in each_push P agents agent n so.count_is so.empty empty;
 }
 
 -- ---- what is seen of a yard

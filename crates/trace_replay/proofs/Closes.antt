@@ -1,5 +1,5 @@
 -- What is stood for behind a barrier.
-use Rattle.std.proofs.Common.{ℕ, ◌≡◌, ◌≤◌, ◌<◌, ◌+◌, ◌-◌, ◌^◌, ◌∷◌, [], ◌++◌, ◌∙◌, ⊎_elim, Bool, true, false, List, length, map, get_or, sym, ap, refl, subst, arith, length-append}
+use Rattle.std.proofs.Common.{ℕ, ◌≡◌, ◌≤◌, ◌<◌, ◌+◌, ◌-◌, ◌^◌, ◌∷◌, [], ◌++◌, ◌∙◌, ⊎_elim, Bool, true, false, ◌==◌, List, length, map, get_or, sym, ap, refl, subst, arith, length-append}
 use Rattle.std.specs.Prelude.{Option, option_map}
 use Rattle.std.specs.List.{Contains, All, flat_map}
 use Rattle.std.proofs.lemmas.List.Elements.{Contains-push_cases}
@@ -35,7 +35,10 @@ use Rattle.trace_replay.specs.Agents.{Standing, PassesAll, IsPassedAt, IsReady, 
 use Rattle.trace_replay.specs.Barriers.{PrintsPending, Prints, closed_of, tick_items, end_items}
 use Rattle.trace_replay.specs.Printing.{splits_of, lefts_of, IsAnswerNamed}
 use Rattle.trace_replay.specs.Segments.{Splits, filled, AreOnce, IsFirst, IsForward, archived_in, answer_of, Pending, numbered, pending_of, pending_items}
-use Rattle.trace_replay.specs.Standing.{Stands, IsNext, AreFew, IsPrinted, IsRight, IsKeptOn, AreSplits, pending_at}
+use Rattle.trace_replay.specs.Yards.{AllKeepEntries}
+use Rattle.trace_replay.specs.Standing.{Way, Stands, IsNext, AreFew, IsPrinted, IsRight, IsKeptOn, AreSplits, pending_at}
+use Rattle.trace_replay.proofs.Answered.{right_closed}
+use Rattle.trace_replay.proofs.Gathering.{gathered_closed}
 use Rattle.trace_replay.proofs.Filled.{moment_of, clock_filled, forward_filled, length_filled}
 use Rattle.trace_replay.proofs.Inner.{answers_count, late_by, room_at, stands_at}
 use Rattle.trace_replay.proofs.Numbered.{answers_back}
@@ -68,11 +71,11 @@ named_each n (moment ∷ seg) o x h =
     (λ e. let P : Pending → Type 0 = λ y. IsAnswerNamed n y.answer in subst P e (named_by n moment.line moment.event (archived_in seg) o.1))
     (Contains-push_cases (pending_of seg) (record { line = moment.line; answer = answer_of moment.event }) x h)
 
-module _ {A : Type 0} (stands : Standing A) (t : Trace) (line : Line) (agents : List A) (s : State) (now : ShelfView) (ready : IsNext stands t line agents s now) where
+module _ {A : Type 0} (way : Way A) (stands : Standing A) (t : Trace) (line : Line) (agents : List A) (s : State) (now : ShelfView) (ready : IsNext way stands t line agents s now) where
   pub answers_there : s.first + length s.answers.items < length t.lines
   answers_there =
       let a = ready.3.first_is in
-      let b = answers_count stands t ready.0 ready.1 ready.2 agents s now ready.3 in
+      let b = answers_count way stands t ready.0 ready.1 ready.2 agents s now ready.3 in
       let c = ready.4.there in omega (arith, a, b, c)
 
   pub answers_named : All (IsAnswerNamed (count t)) s.answers.items
@@ -92,15 +95,15 @@ module _ {A : Type 0} (stands : Standing A) (t : Trace) (line : Line) (agents : 
         rules_of t k,
         ledger (rules_of t) k (filled f ready.2 ready.1),
         ready.3.us k,
-        stands_at stands t ready.0 ready.1 ready.2 agents s s now now ready.3 f k d l0,
-        late_by stands t ready.0 ready.1 ready.2 agents s s now now ready.3 f k time up fits,
-        (λ ticks. room_at stands t ready.0 ready.1 ready.2 agents s s now now ready.3 f k line ready.4),
+        stands_at way stands t ready.0 ready.1 ready.2 agents s s now now ready.3 f k d l0,
+        late_by way stands t ready.0 ready.1 ready.2 agents s s now now ready.3 f k time up fits,
+        (λ ticks. room_at way stands t ready.0 ready.1 ready.2 agents s s now now ready.3 f k line ready.4),
       )
 
 -- ---- behind it
 
-module _ {A : Type 0} (stands : Standing A) (t : Trace) (start : ShelfView) (history seg : History) (agents after : List A) (s : State) (was now : ShelfView)
-    (old : Stands stands t start history seg agents s was)
+module _ {A : Type 0} (way : Way A) (stands : Standing A) (t : Trace) (start : ShelfView) (history seg : History) (agents after : List A) (s : State) (was now : ShelfView)
+    (old : Stands way stands t start history seg agents s was)
     (time : ℕ) (tick : Bool) (barriers : List Barrier) (all : PassesAll stands time tick agents after barriers was now) where
   abbrev f : Splits
   f = splits_of barriers
@@ -163,10 +166,9 @@ module _ {A : Type 0} (stands : Standing A) (t : Trace) (start : ShelfView) (his
 
     -- the events up to the barrier are right
     pub right_behind : IsInTurn (rules_of t) F event → IsSequentialWatch (rules_of t) F event
-        → IsAllowedEvent (count t) (rules_of t) F G event → IfQuery (HasSameDigests (count t) (rules_of t)) G event → IsRight t G []
+        → IsAllowedEvent (count t) (rules_of t) F G event → IfQuery (HasSameDigests (count t) (rules_of t)) G event → IsRight way.workers t G []
     right_behind turn watch allowed digest = record {
-      sequential = λ f'. (old.right.sequential f, turn);
-      watched = λ f'. (old.right.watched f, watch);
+      lines = right_closed (way.workers == 1) way.workers t line event f seg history is_b old.ordered.inner old.ordered.barred turn watch old.right.lines;
       allowed_before = (old.right.allowed f splits_ok, allowed);
       allowed = λ f' hyp. (old.right.allowed f splits_ok, allowed);
       same_digests = (each_filled (HasSameDigests (count t) (rules_of t)) f seg history old.ordered.inner old.right.same_digests, digest);
@@ -200,9 +202,9 @@ module _ {A : Type 0} (stands : Standing A) (t : Trace) (start : ShelfView) (his
     -- the agents and the shelf may have been asked further, and stand for the same
     pub stands_closed : (new : State) (end : ShelfView)
         → new.clock ≡ clock G → new.clock < 2 ^ 48 → new.first ≡ length G → new.answers.items ≡ [] → IsForward event (clock F)
-        → IsRight t G [] → IsPrinted t G new.report.items new.totals → IsKeptOn t G [] none_left start end
-        → Stands stands t start G [] after new end
-    stands_closed new end clock_is clock_fits first_is none forward right printed shelf =
+        → AllKeepEntries way.entries agents after → IsRight way.workers t G [] → IsPrinted t G new.report.items new.totals → IsKeptOn t G [] none_left start end
+        → Stands way stands t start G [] after new end
+    stands_closed new end clock_is clock_fits first_is none forward keep right printed shelf =
         let count_is : length after ≡ count t = all.same ∙ old.count_is in
         record {
           count_is = count_is;
@@ -220,6 +222,9 @@ module _ {A : Type 0} (stands : Standing A) (t : Trace) (start : ShelfView) (his
                 subst P (sym (link r l0)) (at r d l0).stands_now;
             numbered = λ r. account_router (rules_of t) r G;
           };
+          gathered_are = λ r d l.
+              let l0 = in_agents r l in
+              keep.same r d l0 ∙ old.gathered_are r d l ∙ sym (gathered_closed way.workers r line event f seg history is_b old.ordered.inner old.ordered.barred);
           ordered = record { inner = tt; once = tt; barred = is_b; forward = (forward_filled f seg history old.ordered.inner old.ordered.forward, forward) };
           right = right;
           printed = printed;
@@ -230,7 +235,7 @@ module _ {A : Type 0} (stands : Standing A) (t : Trace) (start : ShelfView) (his
   pub first_behind : (last : Moment) (mid new : State) → PrintsPending t barriers s mid → new.first ≡ mid.first → new.first ≡ length (last ∷ F)
   first_behind last mid new pends same =
       let a = old.first_is in
-      let b = answers_count stands t start history seg agents s was old in
+      let b = answers_count way stands t start history seg agents s was old in
       let c = pends.first in
       let e = length_filled f seg history in omega (arith, a, b, c, e, same)
 
@@ -260,7 +265,7 @@ module _ {A : Type 0} (stands : Standing A) (t : Trace) (start : ShelfView) (his
   -- ---- a tick
 
   module _ (is_tick : tick ≡ true) (line : Line) (is : line.what ≡ what.Tick time) (fits : FitsClock s.clock line.what) (has_time : HasTime line.what) (mid new : State)
-      (pends : PrintsPending t barriers s mid) (prints : Prints t (tick_items t barriers line.number time) time mid new) where
+      (pends : PrintsPending t barriers s mid) (prints : Prints t (tick_items t barriers line.number time) time mid new) (keep : AllKeepEntries way.entries agents after) where
     tick_event : Event
     tick_event = ticked time (lefts_of barriers)
 
@@ -283,7 +288,7 @@ module _ {A : Type 0} (stands : Standing A) (t : Trace) (start : ShelfView) (his
         (quiet_append _ _ (quiet_flat_map (closed_of barriers line.number) (λ r. quiet_closing line.number r (option_map closing_of (barrier_at barriers r).closed)) (routers t))
         (quiet_flat_map (left_items line.number (lefts_of barriers)) (quiet_left line.number (lefts_of barriers)) (routers t)))
 
-    pub tick_closes : (g : Splits) × (event : Event) × IsEventOf t.sigs line.what event × Stands stands t start (moment_of line.number event ∷ filled g seg history) [] after new now
+    pub tick_closes : (g : Splits) × (event : Event) × IsEventOf t.sigs line.what event × Stands way stands t start (moment_of line.number event ∷ filled g seg history) [] after new now
     unfolding tick_event
     tick_closes =
         let W : What → Type 0 = λ w. IsEventOf t.sigs w tick_event in
@@ -295,7 +300,7 @@ module _ {A : Type 0} (stands : Standing A) (t : Trace) (start : ShelfView) (his
           tick_event,
           subst W (sym is) refl,
           stands_closed line.number tick_event refl tick_link new now
-              prints.clock_is (subst T (sym prints.clock_is) (subst HasTime is has_time)) (first_behind (moment_of line.number tick_event) mid new pends prints.first) (prints.answers ∙ pends.answers) (omega (arith, later, e))
+              prints.clock_is (subst T (sym prints.clock_is) (subst HasTime is has_time)) (first_behind (moment_of line.number tick_event) mid new pends prints.first) (prints.answers ∙ pends.answers) (omega (arith, later, e)) keep
               (right_behind line.number tick_event refl tick_link tt tt (left_ok line.number tick_event refl tick_link) tt)
               (printed_more line.number tick_event mid new (tick_items t barriers line.number time) time pends prints tick_are tick_quiet)
               (shelf_behind line.number tick_event refl tick_link now (omega arith) refl (λ told name. refl) barrier_paid (λ told. tt) (λ told. tt)),
@@ -304,7 +309,7 @@ module _ {A : Type 0} (stands : Standing A) (t : Trace) (start : ShelfView) (his
   -- ---- the end
 
   module _ (is_tick : tick ≡ false) (same_time : time ≡ s.clock) (line : Line) (is : line.what ≡ what.End) (mid new : State)
-      (pends : PrintsPending t barriers s mid) (prints : Prints t (end_items t barriers line.number) s.clock mid new) where
+      (pends : PrintsPending t barriers s mid) (prints : Prints t (end_items t barriers line.number) s.clock mid new) (keep : AllKeepEntries way.entries agents after) where
     end_event : Event
     end_event = ended (lefts_of barriers)
 
@@ -320,7 +325,7 @@ module _ {A : Type 0} (stands : Standing A) (t : Trace) (start : ShelfView) (his
     end_quiet : AreQuiet (end_items t barriers line.number)
     end_quiet = quiet_cons _ _ (λ z. refl) (quiet_flat_map (left_items line.number (lefts_of barriers)) (quiet_left line.number (lefts_of barriers)) (routers t))
 
-    pub end_closes : (g : Splits) × (event : Event) × IsEventOf t.sigs line.what event × Stands stands t start (moment_of line.number event ∷ filled g seg history) [] after new now
+    pub end_closes : (g : Splits) × (event : Event) × IsEventOf t.sigs line.what event × Stands way stands t start (moment_of line.number event ∷ filled g seg history) [] after new now
     unfolding end_event
     end_closes =
         let W : What → Type 0 = λ w. IsEventOf t.sigs w end_event in
@@ -329,7 +334,7 @@ module _ {A : Type 0} (stands : Standing A) (t : Trace) (start : ShelfView) (his
           end_event,
           subst W (sym is) tt,
           stands_closed line.number end_event refl end_link new now
-              (prints.clock_is ∙ sym same_time ∙ sym clock_now) (subst T (sym prints.clock_is) old.clock_fits) (first_behind (moment_of line.number end_event) mid new pends prints.first) (prints.answers ∙ pends.answers) tt
+              (prints.clock_is ∙ sym same_time ∙ sym clock_now) (subst T (sym prints.clock_is) old.clock_fits) (first_behind (moment_of line.number end_event) mid new pends prints.first) (prints.answers ∙ pends.answers) tt keep
               (right_behind line.number end_event refl end_link tt tt (left_ok line.number end_event refl end_link) tt)
               (printed_more line.number end_event mid new (end_items t barriers line.number) s.clock pends prints refl end_quiet)
               (shelf_behind line.number end_event refl end_link now (omega arith) refl (λ told name. refl) barrier_paid (λ told. tt) (λ told. tt)),

@@ -15,14 +15,14 @@ use Rattle.trace_replay.specs.declared.state.State.{State}
 use Rattle.trace_replay.specs.Agents.{Standing}
 use Rattle.trace_replay.specs.Loop.{HasDone, Proceeds}
 use Rattle.trace_replay.specs.Segments.{filled, archived_by, archived_in, is_barrier_line, count_by, record_count, no_line, number_at}
-use Rattle.trace_replay.specs.Standing.{Fits, IsNext, Does, Closes}
+use Rattle.trace_replay.specs.Standing.{Way, Fits, IsNext, Does, Closes}
 use Rattle.trace_replay.proofs.Filled.{moment_of, event_split, length_filled, clock_filled}
 use Rattle.trace_replay.proofs.RowCounts.{records_filled}
 
 no_barrier : {X : Type 0} → true ≡ false → X
 no_barrier e = absurd (false≢true (sym e))
 
-archived_same : (sigs : List Sig) (w : What) (e : Event) (earlier : List ℕ) → is_barrier_line w ≡ false → IsEventOf sigs w e → archived_by e earlier ≡ archived_after earlier w
+pub archived_same : (sigs : List Sig) (w : What) (e : Event) (earlier : List ℕ) → is_barrier_line w ≡ false → IsEventOf sigs w e → archived_by e earlier ≡ archived_after earlier w
 archived_same sigs (what.Archive router) (archived r put kept) earlier b a = ap (λ (x : ℕ). x ∷ earlier) a
 archived_same sigs (what.Archive router) e earlier b a = absurd a
 archived_same sigs (what.Fwd router packet) (recorded hop page) earlier b a = refl
@@ -69,7 +69,7 @@ clock_same sigs (what.Query router packet time) e c a = absurd a
 clock_same sigs what.End (ended left) c a = refl
 clock_same sigs what.End e c a = absurd a
 
-clock_within : (w : What) (c : ℕ) → is_barrier_line w ≡ false → clock_by c w ≡ c
+pub clock_within : (w : What) (c : ℕ) → is_barrier_line w ≡ false → clock_by c w ≡ c
 clock_within (what.Tick time) c b = no_barrier b
 clock_within (what.Query router packet time) c b = no_barrier b
 clock_within what.End c b = no_barrier b
@@ -80,7 +80,7 @@ clock_within (what.Rotate router) c b = refl
 clock_within (what.Watch router packet) c b = refl
 
 -- an event of a line that records is a record
-count_same : (sigs : List Sig) (w : What) (e : Event) → IsEventOf sigs w e → count_by e ≡ cond (is_recording w) 1 0
+pub count_same : (sigs : List Sig) (w : What) (e : Event) → IsEventOf sigs w e → count_by e ≡ cond (is_recording w) 1 0
 count_same sigs (what.Fwd router packet) (recorded hop page) a = refl
 count_same sigs (what.Fwd router packet) e a = absurd a
 count_same sigs (what.Xf router kind old new) (recorded hop page) a = refl
@@ -102,14 +102,14 @@ one_record : (b : Bool) (x : Line) (more : List Line) → length (cond b (x ∷ 
 one_record true x more = omega arith
 one_record false x more = omega arith
 
-records_more : (x : Line) (xs : List Line) → length (records (x ∷ xs)) ≡ cond (is_recording x.what) 1 0 + length (records xs)
+pub records_more : (x : Line) (xs : List Line) → length (records (x ∷ xs)) ≡ cond (is_recording x.what) 1 0 + length (records xs)
 records_more x xs = one_record (is_recording x.what) x (records xs)
 
 drop_at : (lines : List Line) (i : ℕ) (d : Line) → i < length lines → drop i lines ≡ get_or lines i d ∷ drop (i + 1) lines
 drop_at lines i d l = drop-cons lines i d l ∙ ap (λ k. get_or lines i d ∷ drop k lines) (sym (add-one i))
 
-module _ {A : Type 0} (stands : Standing A) (t : Trace) (start : ShelfView) (sound : IsSound t) (i : ℕ) (d : Line) (agents : List A) (s : State) (now : ShelfView)
-    (within : i < length t.lines) (done : HasDone stands t start i agents s now) where
+module _ {A : Type 0} (way : Way A) (stands : Standing A) (t : Trace) (start : ShelfView) (sound : IsSound t) (i : ℕ) (d : Line) (agents : List A) (s : State) (now : ShelfView)
+    (within : i < length t.lines) (done : HasDone way stands t start i agents s now) where
   abbrev this : Line
   this = get_or t.lines i d
 
@@ -142,10 +142,10 @@ module _ {A : Type 0} (stands : Standing A) (t : Trace) (start : ShelfView) (sou
         let e = ap N recording in omega (arith, l, e);
   }
 
-  pub ready_at : IsNext stands t this agents s now
+  pub ready_at : IsNext way stands t this agents s now
   ready_at = (start, done.history, done.seg, done.stood, fits_at)
 
-  pub done_within : (agents' : List A) (s' : State) (now' : ShelfView) → is_barrier_line this.what ≡ false → Does stands t this agents agents' s s' now now' → HasDone stands t start (i + 1) agents' s' now'
+  pub done_within : (agents' : List A) (s' : State) (now' : ShelfView) → is_barrier_line this.what ≡ false → Does way stands t this agents agents' s s' now now' → HasDone way stands t start (i + 1) agents' s' now'
   done_within agents' s' now' inner does =
       let next = does start done.history done.seg done.stood fits_at in
       let same : s'.clock ≡ s.clock = next.2.clock_is ∙ sym done.stood.clock_is in
@@ -163,7 +163,7 @@ module _ {A : Type 0} (stands : Standing A) (t : Trace) (start : ShelfView) (sou
         closed = λ e l b. no_barrier (sym b ∙ ap (λ k. is_barrier_line (get_or t.lines k e).what) (minus_one i) ∙ ap (λ (x : Line). is_barrier_line x.what) (get_or_default t.lines i e d within) ∙ inner);
       }
 
-  pub done_closing : (agents' : List A) (s' : State) (now' : ShelfView) → is_barrier_line this.what ≡ true → Closes stands t this agents agents' s s' now now' → HasDone stands t start (i + 1) agents' s' now'
+  pub done_closing : (agents' : List A) (s' : State) (now' : ShelfView) → is_barrier_line this.what ≡ true → Closes way stands t this agents agents' s s' now now' → HasDone way stands t start (i + 1) agents' s' now'
   done_closing agents' s' now' barrier closes =
       let next = closes start done.history done.seg done.stood fits_at in
       let F = filled next.0 done.seg done.history in
@@ -185,14 +185,14 @@ module _ {A : Type 0} (stands : Standing A) (t : Trace) (start : ShelfView) (sou
       }
 
 -- the same of a line that stands there
-pub proceeds_within : {A : Type 0} (stands : Standing A) (t : Trace) (line : Line) (before after : List A) (old new : State) (was now : ShelfView) → is_barrier_line line.what ≡ false → Does stands t line before after old new was now → Proceeds stands t line before after old new was now
-proceeds_within stands t line before after old new was now inner does start i d sound within is done =
+pub proceeds_within : {A : Type 0} (way : Way A) (stands : Standing A) (t : Trace) (line : Line) (before after : List A) (old new : State) (was now : ShelfView) → is_barrier_line line.what ≡ false → Does way stands t line before after old new was now → Proceeds way stands t line before after old new was now
+proceeds_within way stands t line before after old new was now inner does start i d sound within is done =
     let P : Line → Type 0 = λ x. is_barrier_line x.what ≡ false in
-    let Q : Line → Type 0 = λ x. Does stands t x before after old new was now in
-    done_within stands t start sound i d before old was within done after new now (subst P is inner) (subst Q is does)
+    let Q : Line → Type 0 = λ x. Does way stands t x before after old new was now in
+    done_within way stands t start sound i d before old was within done after new now (subst P is inner) (subst Q is does)
 
-pub proceeds_closing : {A : Type 0} (stands : Standing A) (t : Trace) (line : Line) (before after : List A) (old new : State) (was now : ShelfView) → is_barrier_line line.what ≡ true → Closes stands t line before after old new was now → Proceeds stands t line before after old new was now
-proceeds_closing stands t line before after old new was now barrier closes start i d sound within is done =
+pub proceeds_closing : {A : Type 0} (way : Way A) (stands : Standing A) (t : Trace) (line : Line) (before after : List A) (old new : State) (was now : ShelfView) → is_barrier_line line.what ≡ true → Closes way stands t line before after old new was now → Proceeds way stands t line before after old new was now
+proceeds_closing way stands t line before after old new was now barrier closes start i d sound within is done =
     let P : Line → Type 0 = λ x. is_barrier_line x.what ≡ true in
-    let Q : Line → Type 0 = λ x. Closes stands t x before after old new was now in
-    done_closing stands t start sound i d before old was within done after new now (subst P is barrier) (subst Q is closes)
+    let Q : Line → Type 0 = λ x. Closes way stands t x before after old new was now in
+    done_closing way stands t start sound i d before old was within done after new now (subst P is barrier) (subst Q is closes)

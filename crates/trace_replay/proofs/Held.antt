@@ -77,7 +77,7 @@ head_at rules router page opened closed = record {
   closed = closed;
 }
 
-bits_turned : (rules : Rules) (l : Ledger) (time page : ℕ) (members : List ℕ) → page < length l.account.closings
+pub bits_turned : (rules : Rules) (l : Ledger) (time page : ℕ) (members : List ℕ) → page < length l.account.closings
     → Some (bits_text rules l.account page members) ≡ Some (bits_text rules (turned_at l time).account page members)
 bits_turned rules l time page members less =
     let was = l.account.closings in
@@ -85,7 +85,7 @@ bits_turned rules l time page members less =
     ap (λ o. Some (text o (closed was page))) (sym (opened_more was time page (omega arith)))
     ∙ ap (λ c. Some (text (opened (was ++ time ∷ []) page) c)) (sym (closed_more was time page less))
 
-text_turned : (rules : Rules) (l : Ledger) (time page : ℕ) (part : ShelfPart) → page < length l.account.closings
+pub text_turned : (rules : Rules) (l : Ledger) (time page : ℕ) (part : ShelfPart) → page < length l.account.closings
     → Some (true_text rules l.account page part) ≡ Some (true_text rules (turned_at l time).account page part)
 text_turned rules l time page Bits less = bits_turned rules l time page (bits rules l.account page) less
 text_turned rules l time page Rows less = refl

@@ -1,6 +1,7 @@
 -- One line more of a segment.
-use Rattle.std.proofs.Common.{ℕ, ◌+◌, ◌≡◌, ◌≢◌, ◌≤◌, ◌<◌, ◌^◌, ◌∷◌, [], ◌++◌, ◌∙◌, ⊎_elim, false, List, length, get_or, set, sym, ap, refl, subst, arith, length-set}
-use Rattle.std.specs.List.{Contains}
+use Rattle.std.proofs.Common.{ℕ, ◌+◌, ◌≡◌, ◌≢◌, ◌≤◌, ◌<◌, ◌^◌, ◌∷◌, [], ◌++◌, ◌∙◌, ⊎_elim, false, List, length, get_or, set, sym, ap, refl, subst, arith, length-set, append-nil}
+use Rattle.std.specs.List.{Contains, flat_map}
+use Rattle.spie_base.specs.declared.Entry.{Entry}
 use Rattle.std.specs.Prelude.{is_some, Option, None, Some}
 use Rattle.std.proofs.lemmas.Bool.{false≢true}
 use Rattle.std.proofs.lemmas.Grind.{get_or-set_at}
@@ -14,7 +15,8 @@ use Rattle.data_agent.specs.Calls.{IsLate, HasRoom}
 use Rattle.trace_history.specs.History.{Event, History, account, clock}
 use Rattle.trace_history.specs.Ledgers.{ledger}
 use Rattle.trace_history.specs.Outcomes.{IsAllowedEvent}
-use Rattle.trace_history.specs.Receipts.{is_barrier, IsInTurn, up_to_barrier}
+use Rattle.trace_history.specs.Receipts.{is_barrier, receipt_by, IsInTurn, up_to_barrier}
+use Rattle.trace_history.specs.Workers.{entry_by, worked, gathered}
 use Rattle.trace_history.specs.Routers.{count, rules_of}
 use Rattle.trace_history.specs.Watched.{IsSequentialWatch}
 use Rattle.trace_history.specs.declared.Totals.{Totals}
@@ -23,7 +25,9 @@ use Rattle.trace_replay.specs.declared.state.State.{State}
 use Rattle.trace_replay.specs.declared.state.Answer.{Answer}
 use Rattle.trace_replay.specs.Agents.{Standing, IsHeld}
 use Rattle.trace_replay.specs.Segments.{Splits, with_split, filled, archived_in, archived_by, IsFirst, answer_of, Pending, numbered, number_at, pending_of}
-use Rattle.trace_replay.specs.Standing.{Stands, Fits, IsKeptOn, IsPrinted, Adds, AreSplits}
+use Rattle.trace_replay.specs.Standing.{Way, Stands, Fits, IsKeptOn, IsPrinted, Adds, AreSplits, AreGathered}
+use Rattle.trace_replay.proofs.Answered.{alone_of, of_alone}
+use Rattle.trace_replay.proofs.Gathering.{gathered_more}
 use Rattle.trace_replay.proofs.Closed.{grows_by}
 use Rattle.trace_replay.proofs.Numbered.{pending, numbered_push, numbered_length, pending_length}
 use Rattle.trace_replay.proofs.Sums.{same_or}
@@ -34,12 +38,12 @@ none_of None e = refl
 none_of (Some x) e = absurd (false≢true (sym e))
 
 -- there is an answer for each moment of the segment
-pub answers_count : {A : Type 0} (stands : Standing A) (t : Trace) (start : ShelfView) (history seg : History) (agents : List A) (s : State) (was : ShelfView) → Stands stands t start history seg agents s was
+pub answers_count : {A : Type 0} (way : Way A) (stands : Standing A) (t : Trace) (start : ShelfView) (history seg : History) (agents : List A) (s : State) (was : ShelfView) → Stands way stands t start history seg agents s was
     → length s.answers.items ≡ length seg
-answers_count stands t start history seg agents s was old = sym (numbered_length t.lines s.first s.answers.items) ∙ ap length old.pending_is ∙ pending_length seg
+answers_count way stands t start history seg agents s was old = sym (numbered_length t.lines s.first s.answers.items) ∙ ap length old.pending_is ∙ pending_length seg
 
-module _ {A : Type 0} (stands : Standing A) (t : Trace) (start : ShelfView) (history seg : History) (agents : List A) (s s' : State) (was now : ShelfView)
-    (old : Stands stands t start history seg agents s was) where
+module _ {A : Type 0} (way : Way A) (stands : Standing A) (t : Trace) (start : ShelfView) (history seg : History) (agents : List A) (s s' : State) (was now : ShelfView)
+    (old : Stands way stands t start history seg agents s was) where
   abbrev F : Splits → History
   F f = filled f seg history
 
@@ -84,7 +88,9 @@ module _ {A : Type 0} (stands : Standing A) (t : Trace) (start : ShelfView) (his
       (others : (f : Splits) (r : ℕ) → r ≢ r0 → ledger (rules_of t) r (G line event f) ≡ ledger (rules_of t) r (F f))
       (spared : (r : ℕ) → r ≢ r0 → us r ≡ old.us r)
       (none : (r : ℕ) → is_archived (archived_by event (archived_in seg)) r ≡ false → us r ≡ nothing_unfinished)
-      (own_closed : (f : Splits) (x : PutBits) → Contains (us r0).bits_put x → x.page < length (account (rules_of t) r0 (G line event f)).closings) where
+      (own_closed : (f : Splits) (x : PutBits) → Contains (us r0).bits_put x → x.page < length (account (rules_of t) r0 (G line event f)).closings)
+      (alone : way.workers ≡ 1) (d0 : A) (own_entry : way.entries new ≡ way.entries (get_or agents r0 d0) ++ flat_map (entry_by r0) (receipt_by event))
+      (no_entry : (r : ℕ) → r ≢ r0 → flat_map (entry_by r) (receipt_by event) ≡ []) where
     each_stands : (f : Splits) (r : ℕ) (d : A) → r < length (set agents r0 new) → stands (get_or (set agents r0 new) r d) (rules_of t r) (ledger (rules_of t) r (G line event f)) (us r)
     each_stands f r d l =
         let l' : r < length agents = subst (λ (n : ℕ). r < n) (length-set agents r0 new) l in
@@ -99,11 +105,27 @@ module _ {A : Type 0} (stands : Standing A) (t : Trace) (start : ShelfView) (his
         subst Q (sym (get_or-set_other agents r0 r new d ne)) (subst R (sym (spared r ne)) (subst P (sym (others f r ne)) ((old.agents_stand f).each r d l'))))
         (same_or r r0)
 
+    -- the agent of the line's router has its entry, and the others have none more
+    each_gathered : AreGathered way t history (moment_of line event ∷ seg) (set agents r0 new)
+    each_gathered r d l =
+        let g : ℕ → List Entry = λ q. gathered way.workers q history in
+        let Q : A → Type 0 = λ a. way.entries a ≡ g r ++ worked way.workers r (moment_of line event ∷ seg) in
+        ⊎_elim
+        (λ (e : r ≡ r0).
+        let P : ℕ → Type 0 = λ q. way.entries new ≡ g q ++ worked way.workers q (moment_of line event ∷ seg) in
+        subst Q (sym (get_or-set_at agents r0 r new d e (within r0 in_trace)))
+        (subst P (sym e) (gathered_more way.workers r0 line event seg (g r0) (way.entries (get_or agents r0 d0)) (way.entries new) alone (old.gathered_are r0 d0 in_trace) own_entry)))
+        (λ (ne : r ≢ r0).
+        subst Q (sym (get_or-set_other agents r0 r new d ne))
+        (gathered_more way.workers r line event seg (g r) (way.entries (get_or agents r d)) (way.entries (get_or agents r d)) alone (old.gathered_are r d l)
+        (sym (append-nil (way.entries (get_or agents r d))) ∙ ap (λ (es : List Entry). way.entries (get_or agents r d) ++ es) (sym (no_entry r ne)))))
+        (same_or r r0)
+
     pub stands_more : is_barrier event ≡ false → IsFirst (count t) event (archived_in seg) → number_at t.lines (length seg + length history) ≡ line → Adds s s' (answer_of event)
         → ((f : Splits) → IsInTurn (rules_of t) (F f) (with_split f event)) → ((f : Splits) → IsSequentialWatch (rules_of t) (F f) (with_split f event))
         → ((f : Splits) → AreSplits t f (G line event f) → AreSplits t f (F f) × IsAllowedEvent (count t) (rules_of t) (F f) (G line event f) (with_split f event))
         → IsKeptOn t history (moment_of line event ∷ seg) us start now
-        → Stands stands t start history (moment_of line event ∷ seg) (set agents r0 new) s' now
+        → Stands way stands t start history (moment_of line event ∷ seg) (set agents r0 new) s' now
     stands_more inner first place adds turn watch allowed kept =
         let P : List ℕ → Type 0 = λ report. IsPrinted t history report s.totals in
         let Q : Totals → Type 0 = λ totals. IsPrinted t history s'.report.items totals in
@@ -116,7 +138,7 @@ module _ {A : Type 0} (stands : Standing A) (t : Trace) (start : ShelfView) (his
           pending_is =
               let N : ℕ → List Answer → List Pending = numbered t.lines in
               ap (λ k. N k s'.answers.items) adds.first ∙ ap (N s.first) adds.answers
-              ∙ numbered_push t.lines s.first (length seg) s.answers.items (answer_of event) (answers_count stands t start history seg agents s was old)
+              ∙ numbered_push t.lines s.first (length seg) s.answers.items (answer_of event) (answers_count way stands t start history seg agents s was old)
               ∙ ap (λ (xs : List Pending). xs ++ pending (number_at t.lines (s.first + length seg)) (answer_of event) ∷ []) old.pending_is
               ∙ ap (λ k. pending_of seg ++ pending k (answer_of event) ∷ []) (let e = old.first_is in let same : s.first + length seg ≡ length seg + length history = omega (arith, e) in ap (λ k. number_at t.lines k) same ∙ place);
           us = us;
@@ -128,10 +150,12 @@ module _ {A : Type 0} (stands : Standing A) (t : Trace) (start : ShelfView) (his
               let a = old.us_closed f r x (subst P (spared r ne) h) in let b = grows_by (rules_of t) r line (F f) (with_split f event) in omega (arith, a, b))
               (same_or r r0);
           agents_stand = λ f. record { each = each_stands f; numbered = λ r. account_router (rules_of t) r (G line event f) };
+          gathered_are = each_gathered;
           ordered = record { inner = (old.ordered.inner, inner); once = (old.ordered.once, first); barred = old.ordered.barred; forward = old.ordered.forward };
           right = record {
-            sequential = λ f. (old.right.sequential f, turn f);
-            watched = λ f. (old.right.watched f, watch f);
+            lines =
+                let had = alone_of way.workers t history seg alone old.right.lines in
+                of_alone way.workers t history (moment_of line event ∷ seg) alone (record { sequential = λ f. (had.sequential f, turn f); watched = λ f. (had.watched f, watch f) });
             allowed_before = old.right.allowed_before;
             allowed = λ f hyp. let x = allowed f hyp in (old.right.allowed f x.0, x.1);
             same_digests = old.right.same_digests;

@@ -27,7 +27,7 @@ use Rattle.trace_history.specs.Routers.{count, rules_of}
 use Rattle.trace_replay.specs.declared.state.State.{State}
 use Rattle.trace_replay.specs.Agents.{Standing}
 use Rattle.trace_replay.specs.Segments.{Splits, filled, archived_in}
-use Rattle.trace_replay.specs.Standing.{IsNext}
+use Rattle.trace_replay.specs.Standing.{Way, IsNext}
 use Rattle.trace_replay.proofs.Closed.{grows_filled, puts_closed}
 use Rattle.trace_replay.proofs.Filled.{up_filled, archive_is}
 use Rattle.trace_replay.proofs.Inner.{none_of, within, stands_at, late_at, room_at}
@@ -54,7 +54,7 @@ row_kind Icmp old new = tt
 row_kind Ipip old new = tt
 row_kind Decap old new = tt
 
-module _ {A : Type 0} (stands : Standing A) (t : Trace) (line : Line) (agents : List A) (d : A) (s : State) (now : ShelfView) (ready : IsNext stands t line agents s now) where
+module _ {A : Type 0} (way : Way A) (stands : Standing A) (t : Trace) (line : Line) (agents : List A) (d : A) (s : State) (now : ShelfView) (ready : IsNext way stands t line agents s now) where
   abbrev start : ShelfView
   start = ready.0
 
@@ -75,7 +75,7 @@ module _ {A : Type 0} (stands : Standing A) (t : Trace) (line : Line) (agents : 
 
   -- the router's agent is there, and stands for a ledger
   pub agent_in : (router : ℕ) → ((n m : ℕ) → IsWithin n m line.what → router < n) → router < length agents
-  agent_in router named = within stands t start history seg agents s s now now ready.3 router (router_in router named)
+  agent_in router named = within way stands t start history seg agents s s now now ready.3 router (router_in router named)
 
   pub forward_in : (router : RouterId) (packet : ℕ) → line.what ≡ what.Fwd router packet → router.number < length agents
   forward_in router packet is = agent_in router.number (λ n m w. let P : What → Type 0 = λ x. IsWithin n m x in (subst P is w).0)
@@ -94,7 +94,7 @@ module _ {A : Type 0} (stands : Standing A) (t : Trace) (line : Line) (agents : 
 
   abbrev pub agent_stands : (router : ℕ) → ((n m : ℕ) → IsWithin n m line.what → router < n) → (rules : Rules) × (l : Ledger) × (u : Unfinished) × stands (get_or agents router d) rules l u
   agent_stands router named =
-      (rules_of t router, here router, ready.3.us router, stands_at stands t start history seg agents s s now now ready.3 plain router d (router_in router named))
+      (rules_of t router, here router, ready.3.us router, stands_at way stands t start history seg agents s s now now ready.3 plain router d (router_in router named))
 
   abbrev pub IsStanding : (router : ℕ) → Type 0
   IsStanding router = (rules : Rules) × (l : Ledger) × (u : Unfinished) × stands (get_or agents router d) rules l u
@@ -112,7 +112,7 @@ module _ {A : Type 0} (stands : Standing A) (t : Trace) (line : Line) (agents : 
   rotate_ready router is =
       let r0 = router.number in
       let has = agent_stands r0 (λ n m w. let P : What → Type 0 = λ x. IsWithin n m x in subst P is w) in
-      (has.0, has.1, has.2, has.3, late_at stands t start history seg agents s s now now ready.3 plain r0, room_at stands t start history seg agents s s now now ready.3 plain r0 line ready.4)
+      (has.0, has.1, has.2, has.3, late_at way stands t start history seg agents s s now now ready.3 plain r0, room_at way stands t start history seg agents s s now now ready.3 plain r0 line ready.4)
 
   pub archive_fresh : (router : RouterId) → line.what ≡ what.Archive router → MayNote (stands (get_or agents router.number d))
   archive_fresh router is =

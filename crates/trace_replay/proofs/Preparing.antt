@@ -3,12 +3,12 @@ use Rattle.std.proofs.Common.{ℕ, zero, suc, ◌≡◌, ◌≢◌, ◌≤◌, �
 use Rattle.std.specs.List.{All}
 use Rattle.std.proofs.lemmas.Grind.{get_or-set_at}
 use Rattle.std.proofs.lemmas.List.{get_or-set_other}
-use Rattle.spie_base.specs.declared.Rules.{Rules}
-use Rattle.router_account.specs.Ledger.{Ledger, Unfinished, nothing_unfinished}
+use Rattle.spie_base.specs.declared.Entry.{Entry}
+use Rattle.router_account.specs.Ledger.{nothing_unfinished}
 use Rattle.router_account.specs.Shelves.{ShelfView}
 use Rattle.data_agent.specs.declared.Barrier.{Barrier}
-use Rattle.trace_replay.specs.Agents.{Standing, IsPast, IsPassedAt, PassesAll, barrier_at, passed}
-use Rattle.trace_replay.specs.Yards.{IsStanding, KeepsStanding, AllKeepStanding}
+use Rattle.trace_replay.specs.Agents.{Standing, IsPast, PassesAll, barrier_at, passed}
+use Rattle.trace_replay.specs.Yards.{IsStanding, KeepsStanding, AllKeepStanding, AllKeepEntries}
 use Rattle.trace_replay.proofs.Sums.{same_or}
 use Rattle.trace_replay.proofs.Beside.{get_any}
 
@@ -39,6 +39,29 @@ kept_set {A = A} stands before agents i d new within so keeps = record {
       subst Q (sym (get_or-set_other agents i r new a ne)) (so.still r a l))
       (same_or r i);
 }
+
+-- ---- entries
+
+pub entries_all : {A : Type 0} (entries : A → List Entry) (agents : List A) → AllKeepEntries entries agents agents
+entries_all entries agents = record { count = refl; same = λ r a l. refl }
+
+-- one agent more has the entries that it had
+pub entries_set : {A : Type 0} (entries : A → List Entry) (before agents : List A) (i : ℕ) (d new : A) → i < length agents → AllKeepEntries entries before agents
+    → entries new ≡ entries (get_or agents i d) → AllKeepEntries entries before (set agents i new)
+entries_set {A = A} entries before agents i d new within so keeps = record {
+  count = length-set agents i new ∙ so.count;
+  same = λ r a l. ⊎_elim
+      (λ (e : r ≡ i).
+      let c = so.count in
+      let P : ℕ → Type 0 = λ k. entries (get_or (set agents i new) k a) ≡ entries (get_or before k a) in
+      subst P (sym e) (ap (λ (x : A). entries x) (get_or-set_at agents i i new a refl within) ∙ keeps ∙ ap (λ (x : A). entries x) (get_any agents i d a within) ∙ so.same i a (omega (arith, c, within))))
+      (λ (ne : r ≢ i). ap (λ (x : A). entries x) (get_or-set_other agents i r new a ne) ∙ so.same r a l)
+      (same_or r i);
+}
+
+-- entries that are kept twice are kept
+pub entries_twice : {A : Type 0} (entries : A → List Entry) (old mid new : List A) → AllKeepEntries entries old mid → AllKeepEntries entries mid new → AllKeepEntries entries old new
+entries_twice entries old mid new a b = record { count = b.count ∙ a.count; same = λ r d l. let c = a.count in b.same r d (omega (arith, c, l)) ∙ a.same r d l }
 
 -- what holds of each item, where one more of them is another
 pub each_set : {X : Type 0} (P : X → Type 0) (xs : List X) (x : X) (n : ℕ) → n < length xs → ((i : ℕ) (d : X) → i < n → P (get_or xs i d)) → P x → (i : ℕ) (d : X) → i < n + 1 → P (get_or (set xs n x) i d)

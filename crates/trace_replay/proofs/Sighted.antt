@@ -22,7 +22,7 @@ use Rattle.trace_replay.specs.Loop.{HasDone}
 use Rattle.trace_replay.specs.Printing.{splits_of}
 use Rattle.trace_replay.specs.Segments.{no_line}
 use Rattle.trace_replay.specs.Sights.{query_time, time_at, HasQuery, AreSights}
-use Rattle.trace_replay.specs.Standing.{IsNext}
+use Rattle.trace_replay.specs.Standing.{Way, IsNext}
 use Rattle.trace_replay.proofs.Asked.{agents_past, router_exists, sights_are}
 use Rattle.trace_replay.proofs.Closes.{agents_ready}
 use Rattle.trace_replay.proofs.Doing.{ready_at}
@@ -102,16 +102,16 @@ is_there lines line place l e =
 
 -- ---- behind it
 
-module _ {A S : Type 0} (stands : Standing A) (shown : S → Shown) (told : S → Told) (t : Trace) (start : ShelfView) (sound : IsSound t) (agents : List A) (s : State) (was : ShelfView)
-    (lines : List Line) (is : lines ≡ t.lines) (place : ℕ) (there : place < length lines) (before : HasDone stands t start (length (take place lines)) agents s was)
+module _ {A S : Type 0} (way : Way A) (stands : Standing A) (shown : S → Shown) (told : S → Told) (t : Trace) (start : ShelfView) (sound : IsSound t) (agents : List A) (s : State) (was : ShelfView)
+    (lines : List Line) (is : lines ≡ t.lines) (place : ℕ) (there : place < length lines) (before : HasDone way stands t start (length (take place lines)) agents s was)
     (line time : ℕ) (asks : time_at line (get_or lines place no_line) ≡ Some time) where
   within : place < length t.lines
   within = subst (λ (xs : List Line). place < length xs) is there
 
-  done : HasDone stands t start place agents s was
+  done : HasDone way stands t start place agents s was
   done =
-      let D : List Line → Type 0 = λ xs. HasDone stands t start (length (take place xs)) agents s was in
-      let E : ℕ → Type 0 = λ n. HasDone stands t start n agents s was in
+      let D : List Line → Type 0 = λ xs. HasDone way stands t start (length (take place xs)) agents s was in
+      let E : ℕ → Type 0 = λ n. HasDone way stands t start n agents s was in
       let l = within in
       subst E (length-take-le place t.lines (omega (arith, l))) (subst D is before)
 
@@ -121,24 +121,24 @@ module _ {A S : Type 0} (stands : Standing A) (shown : S → Shown) (told : S �
   asked : IsAsked line this time
   asked = asked_line line this time (subst (λ (xs : List Line). time_at line (get_or xs place no_line) ≡ Some time) is asks)
 
-  ready : IsNext stands t this agents s was
-  ready = ready_at stands t start sound place no_line agents s was within done
+  ready : IsNext way stands t this agents s was
+  ready = ready_at way stands t start sound place no_line agents s was within done
 
   pub ready_there : All (IsReady stands s.clock false) agents
-  ready_there = agents_ready stands t this agents s was ready s.clock false (omega arith) ready.3.clock_fits
+  ready_there = agents_ready way stands t this agents s was ready s.clock false (omega arith) ready.3.clock_fits
 
   pub past_there : (after : List A) (mid : ShelfView) (barriers : List Barrier) → PassesAll stands s.clock false agents after barriers was mid → All (IsPast stands time) after
   past_there after mid barriers all =
-      agents_past stands t this agents after s was mid ready barriers all time (router_exists stands t this agents s was asked.query.router asked.query.packet time asked.query.is ready).1
+      agents_past way stands t this agents after s was mid ready barriers all time (router_exists way stands t this agents s was asked.query.router asked.query.packet time asked.query.is ready).1
 
-  pub sights_there : (after : List A) (mid now : ShelfView) (barriers : List Barrier) → PassesAll stands s.clock false agents after barriers was mid
+  pub sights_there : way.workers ≡ 1 → (after : List A) (mid now : ShelfView) (barriers : List Barrier) → PassesAll stands s.clock false agents after barriers was mid
       → (sights : List S) → SeesAll stands shown told time after sights mid now → AreSights shown told t line sights (record { shelf_before = start; shelf_after = now })
-  sights_there after mid now barriers all sights sees =
+  sights_there alone after mid now barriers all sights sees =
       let query = asked.query in
       let W : What → Type 0 = λ w. IsWithin (count t) (length t.sigs) w in
       let has : query.packet < length t.sigs = (subst W query.is (sound.within place no_line within)).1 in
       let some = some_of t.sigs query.packet has in
       let N : ℕ → Type 0 = λ n. AreSights shown told t n sights (record { shelf_before = start; shelf_after = now }) in
       subst N asked.number_is
-      (sights_are stands shown told t start done.history done.seg agents after s was mid now done.stood barriers all time sights sees this query.router query.packet (get_or t.sigs query.packet some) query.is (get_at t.sigs query.packet some has)
+      (sights_are way stands shown told t start done.history done.seg agents after s was mid now done.stood barriers all time sights sees this query.router query.packet (get_or t.sigs query.packet some) query.is (get_at t.sigs query.packet some has) alone
       (take place t.lines) (take (place + 1) t.lines) (drop (place + 1) t.lines) (sym (take-append-drop (place + 1) t.lines)) (take_more t.lines place no_line within) (done.lines_are (splits_of barriers)))

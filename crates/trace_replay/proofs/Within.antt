@@ -1,5 +1,5 @@
 -- Each kind of line of a segment.
-use Rattle.std.proofs.Common.{ℕ, ◌≡◌, ◌≢◌, ◌≤◌, ◌<◌, ◌+◌, ◌∷◌, [], ◌++◌, ◌∙◌, ⊎_elim, Bool, true, false, cond, ◌==◌, List, length, get_or, set, sym, ap, refl, subst, arith}
+use Rattle.std.proofs.Common.{ℕ, ◌≡◌, ◌≢◌, ◌≤◌, ◌<◌, ◌+◌, ◌∷◌, [], ◌++◌, ◌∙◌, ⊎_elim, Bool, true, false, cond, ◌==◌, List, length, get_or, set, sym, ap, refl, subst, arith, append-nil}
 use Rattle.std.specs.List.{Contains}
 use Rattle.std.specs.Prelude.{slice_get, Some, None}
 use Rattle.std.proofs.lemmas.Bool.{eq-eqb, eqb-true, false_from_ne_true, false≢true}
@@ -7,6 +7,7 @@ use Rattle.std.proofs.lemmas.List.Elements.{Contains-append_cases}
 use Rattle.spie_base.proofs.Booleans.{none_held}
 use Rattle.spie_base.proofs.Membership.{has_none}
 use Rattle.spie_base.specs.Causes.{RoseBy}
+use Rattle.spie_base.specs.declared.Entry.{Entry}
 use Rattle.spie_base.specs.declared.RouterId.{RouterId}
 use Rattle.spie_base.specs.declared.Rules.{Rules}
 use Rattle.spie_base.specs.declared.Sig.{Sig}
@@ -35,9 +36,10 @@ use Rattle.trace_replay.specs.declared.state.State.{State}
 use Rattle.trace_replay.specs.declared.state.Answer.TheVariants.{Entered, Opened, Archived, Watched}
 use Rattle.trace_replay.specs.Agents.{Standing, IsHeld}
 use Rattle.trace_replay.specs.Segments.{Splits, filled, archived_in, answer_of}
-use Rattle.trace_replay.specs.Standing.{Stands, Does, Adds}
+use Rattle.trace_replay.specs.Standing.{Way, Does, Adds}
 use Rattle.trace_replay.proofs.Closed.{puts_closed, grows_by}
 use Rattle.trace_replay.proofs.Filled.{moment_of, recorded_own, recorded_other, rotated_own, rotated_other, archived_own, archived_other, up_filled, puts_filled, archive_is}
+use Rattle.trace_replay.proofs.Gathering.{own_entry, other_entry}
 use Rattle.trace_replay.proofs.Held.{ArePutClosed, held_recorded, held_changed, held_turned}
 use Rattle.trace_replay.proofs.Inner.{none_of, stands_at, clock_at, stands_more, kept_with}
 use Rattle.trace_replay.proofs.Passing.{held_still}
@@ -46,29 +48,35 @@ use Rattle.trace_replay.proofs.Sums.{rose_add, rose_less, same_or, sum_update}
 none_some : {X : Type 0} (x : X) → None ≡ Some x → ⊥
 none_some x e = cc
 
-module _ {A : Type 0} (stands : Standing A) (t : Trace) (line : Line) (agents : List A) (d : A) (new : A) (s s' : State) (was now : ShelfView) where
+module _ {A : Type 0} (way : Way A) (stands : Standing A) (t : Trace) (line : Line) (agents : List A) (d : A) (new : A) (s s' : State) (was now : ShelfView) (alone : way.workers ≡ 1) where
+  none_more : {xs ys : List Entry} → xs ≡ ys → xs ≡ ys ++ []
+  none_more {xs} {ys} e = e ∙ sym (append-nil ys)
+
   -- a packet leaves as it came, or changed
   record_line : (hop : Hop) (page : ℕ) → ((n m : ℕ) → IsWithin n m line.what → hop.router < n) → IsEventOf t.sigs line.what (recorded hop page)
       → ((rules : Rules) (l : Ledger) (u : Unfinished) → stands (get_or agents hop.router d) rules l u
       → (page ≡ open_page l.account.closings) × stands new rules (record l { account = with_hop l.account hop page }) u)
       → ((c : Contents) (rules : Rules) (l : Ledger) (u : Unfinished) → ArePutClosed l u → page ≡ open_page l.account.closings → IsHeld rules c l u → IsHeld rules c (record l { account = with_hop l.account hop page }) u)
+      → way.entries new ≡ way.entries (get_or agents hop.router d) ++ record { page = record { number = page }; sig = hop.sig } ∷ []
       → Adds s s' (answer_of (recorded hop page))
-      → Does stands t line agents (set agents hop.router new) s s' was was
-  record_line hop page named is_event call held adds start history seg old fits =
+      → Does way stands t line agents (set agents hop.router new) s s' was was
+  record_line hop page named is_event call held entries adds start history seg old fits =
       let event = recorded hop page in
       let r0 = hop.router in
       let l0 : r0 < count t = named (count t) (length t.sigs) fits.within in
       let F = λ (f : Splits). filled f seg history in
       let L = λ (f : Splits). ledger (rules_of t) r0 (F f) in
-      let at = λ (f : Splits). call (rules_of t r0) (L f) (old.us r0) (stands_at stands t start history seg agents s s' was was old f r0 d l0) in
+      let at = λ (f : Splits). call (rules_of t r0) (L f) (old.us r0) (stands_at way stands t start history seg agents s s' was was old f r0 d l0) in
       let is = λ (f : Splits). recorded_own (rules_of t) r0 line.number hop page (F f) refl in
       let others = λ (f : Splits) (r : ℕ) (ne : r ≢ r0). recorded_other (rules_of t) r line.number hop page (F f) (λ e. ne (sym e)) in (
         event,
         is_event,
-        stands_more stands t start history seg agents s s' was was old line.number event r0 new old.us l0
+        stands_more way stands t start history seg agents s s' was was old line.number event r0 new old.us l0
             (λ f. let P : Ledger → Type 0 = λ l. stands new (rules_of t r0) l (old.us r0) in subst P (sym (is f)) (at f).1)
-            others (λ r ne. refl) old.us_none (λ f x h. let a = old.us_closed f r0 x h in let b = grows_by (rules_of t) r0 line.number (F f) event in omega (arith, a, b)) refl tt fits.place adds (λ f. (at f).0) (λ f. tt) (λ f hyp. (hyp, tt))
-            (kept_with stands t start history seg agents s s' was was old line.number event r0 others
+            others (λ r ne. refl) old.us_none (λ f x h. let a = old.us_closed f r0 x h in let b = grows_by (rules_of t) r0 line.number (F f) event in omega (arith, a, b))
+            alone d (entries ∙ ap (λ (es : List Entry). way.entries (get_or agents r0 d) ++ es) (sym (own_entry r0 page hop refl))) (λ r ne. other_entry r page hop (λ e. ne (sym e)))
+            refl tt fits.place adds (λ f. (at f).0) (λ f. tt) (λ f hyp. (hyp, tt))
+            (kept_with way stands t start history seg agents s s' was was old line.number event r0 others
             (λ f h. let P : Ledger → Type 0 = λ l. IsHeld (rules_of t r0) was.contents l (old.us r0) in
             subst P (sym (is f)) (held was.contents (rules_of t r0) (L f) (old.us r0) (puts_closed (count t) (rules_of t) r0 f seg history (old.us r0) old.ordered.inner old.ordered.barred old.right.allowed_before (old.us_closed f r0)) (at f).0 h))),
       )
@@ -76,9 +84,10 @@ module _ {A : Type 0} (stands : Standing A) (t : Trace) (line : Line) (agents : 
   pub does_forward : (router : RouterId) (packet : ℕ) (sig : Sig) (page : ℕ) → line.what ≡ what.Fwd router packet → slice_get t.sigs packet ≡ Some sig
       → ((rules : Rules) (l : Ledger) (u : Unfinished) → stands (get_or agents router.number d) rules l u → page ≡ open_page l.account.closings)
       → ((rules : Rules) (l : Ledger) (u : Unfinished) → stands (get_or agents router.number d) rules l u → stands new rules (recorded_in l (open_page l.account.closings) sig) u)
+      → way.entries new ≡ way.entries (get_or agents router.number d) ++ record { page = record { number = page }; sig = sig } ∷ []
       → Adds s s' (Entered (record { number = page }))
-      → Does stands t line agents (set agents router.number new) s s' was was
-  does_forward router packet sig page is known opened call adds =
+      → Does way stands t line agents (set agents router.number new) s s' was was
+  does_forward router packet sig page is known opened call entries adds =
       let hop : Hop = record { router = router.number; sig = sig; origin = same } in
       let W : What → Type 0 = λ w. IsEventOf t.sigs w (recorded hop page) in
       record_line hop page
@@ -86,15 +95,16 @@ module _ {A : Type 0} (stands : Standing A) (t : Trace) (line : Line) (agents : 
       (subst W (sym is) (refl, known, refl))
       (λ rules l u at. let e = opened rules l u at in let P : ℕ → Type 0 = λ p. stands new rules (recorded_in l p sig) u in (e, subst P (sym e) (call rules l u at)))
       (λ c rules l u closed e h. let P : ℕ → Type 0 = λ p. IsHeld rules c (recorded_in l p sig) u in subst P (sym e) (held_recorded rules c l u sig closed h))
-      adds
+      entries adds
 
   pub does_change : (router : RouterId) (kind : Kind) (before after : ℕ) (was_sig sig : Sig) (page : ℕ) → line.what ≡ what.Xf router kind before after → slice_get t.sigs before ≡ Some was_sig → slice_get t.sigs after ≡ Some sig
       → ((rules : Rules) (l : Ledger) (u : Unfinished) → stands (get_or agents router.number d) rules l u → page ≡ open_page l.account.closings)
       → ((rules : Rules) (l : Ledger) (u : Unfinished) → stands (get_or agents router.number d) rules l u
       → stands new rules (changed_in (recorded_in l (open_page l.account.closings) sig) page (row_of kind was_sig sig)) u)
+      → way.entries new ≡ way.entries (get_or agents router.number d) ++ record { page = record { number = page }; sig = sig } ∷ []
       → Adds s s' (Entered (record { number = page }))
-      → Does stands t line agents (set agents router.number new) s s' was was
-  does_change router kind before after was_sig sig page is known_was known opened call adds =
+      → Does way stands t line agents (set agents router.number new) s s' was was
+  does_change router kind before after was_sig sig page is known_was known opened call entries adds =
       let hop : Hop = record { router = router.number; sig = sig; origin = changed kind was_sig } in
       let row = row_of kind was_sig sig in
       let W : What → Type 0 = λ w. IsEventOf t.sigs w (recorded hop page) in
@@ -105,14 +115,15 @@ module _ {A : Type 0} (stands : Standing A) (t : Trace) (line : Line) (agents : 
       (λ c rules l u closed e h.
       let P : ℕ → Type 0 = λ p. IsHeld rules c (changed_in (recorded_in l p sig) p row) u in
       subst P (sym e) (held_changed rules c (recorded_in l (open_page l.account.closings) sig) u row (record { each = closed.each; bits = closed.bits }) (held_recorded rules c l u sig closed h)))
-      adds
+      entries adds
 
   pub does_rotate : (router : RouterId) (page : ℕ) → line.what ≡ what.Rotate router
       → ((rules : Rules) (l : Ledger) (u : Unfinished) → stands (get_or agents router.number d) rules l u → page ≡ open_page l.account.closings + 1)
       → ((rules : Rules) (l : Ledger) (u : Unfinished) → stands (get_or agents router.number d) rules l u → stands new rules (turned_at l s.clock) u)
+      → way.entries new ≡ way.entries (get_or agents router.number d)
       → Adds s s' (Opened (record { number = page }))
-      → Does stands t line agents (set agents router.number new) s s' was was
-  does_rotate router page is opened call adds start history seg old fits =
+      → Does way stands t line agents (set agents router.number new) s s' was was
+  does_rotate router page is opened call entries adds start history seg old fits =
       let event = rotated router.number page in
       let r0 = router.number in
       let V : What → Type 0 = λ w. IsWithin (count t) (length t.sigs) w in
@@ -120,17 +131,18 @@ module _ {A : Type 0} (stands : Standing A) (t : Trace) (line : Line) (agents : 
       let W : What → Type 0 = λ w. IsEventOf t.sigs w event in
       let F = λ (f : Splits). filled f seg history in
       let L = λ (f : Splits). ledger (rules_of t) r0 (F f) in
-      let had = λ (f : Splits). stands_at stands t start history seg agents s s' was was old f r0 d l0 in
+      let had = λ (f : Splits). stands_at way stands t start history seg agents s s' was was old f r0 d l0 in
       let is_now : (f : Splits) → ledger (rules_of t) r0 (moment_of line.number event ∷ F f) ≡ turned_at (L f) s.clock = λ f.
-      rotated_own (rules_of t) r0 line.number r0 page (F f) refl ∙ ap (λ (c : ℕ). turned_at (L f) c) (sym (clock_at stands t start history seg agents s s' was was old f)) in
+      rotated_own (rules_of t) r0 line.number r0 page (F f) refl ∙ ap (λ (c : ℕ). turned_at (L f) c) (sym (clock_at way stands t start history seg agents s s' was was old f)) in
       let others = λ (f : Splits) (r : ℕ) (ne : r ≢ r0). rotated_other (rules_of t) r line.number r0 page (F f) (λ e. ne (sym e)) in (
         event,
         subst W (sym is) refl,
-        stands_more stands t start history seg agents s s' was was old line.number event r0 new old.us l0
+        stands_more way stands t start history seg agents s s' was was old line.number event r0 new old.us l0
             (λ f. let P : Ledger → Type 0 = λ l. stands new (rules_of t r0) l (old.us r0) in subst P (sym (is_now f)) (call (rules_of t r0) (L f) (old.us r0) (had f)))
-            others (λ r ne. refl) old.us_none (λ f x h. let a = old.us_closed f r0 x h in let b = grows_by (rules_of t) r0 line.number (F f) event in omega (arith, a, b)) refl tt fits.place adds
+            others (λ r ne. refl) old.us_none (λ f x h. let a = old.us_closed f r0 x h in let b = grows_by (rules_of t) r0 line.number (F f) event in omega (arith, a, b))
+            alone d (none_more entries) (λ r ne. refl) refl tt fits.place adds
             (λ f. opened (rules_of t r0) (L f) (old.us r0) (had f)) (λ f. tt) (λ f hyp. (hyp, tt))
-            (kept_with stands t start history seg agents s s' was was old line.number event r0 others
+            (kept_with way stands t start history seg agents s s' was was old line.number event r0 others
             (λ f h. let P : Ledger → Type 0 = λ l. IsHeld (rules_of t r0) was.contents l (old.us r0) in
             subst P (sym (is_now f)) (held_turned (rules_of t r0) was.contents (L f) (old.us r0) s.clock (puts_closed (count t) (rules_of t) r0 f seg history (old.us r0) old.ordered.inner old.ordered.barred old.right.allowed_before (old.us_closed f r0)) h))),
       )
@@ -138,9 +150,10 @@ module _ {A : Type 0} (stands : Standing A) (t : Trace) (line : Line) (agents : 
   pub does_archive : (router : RouterId) → line.what ≡ what.Archive router
       → was.faults ≤ now.faults → now.tells ≡ was.tells
       → (more : Unfinished) → IsNoted (stands (get_or agents router.number d)) (stands new) more was.tells was.contents now.contents → RoseBy more.refused was.faults now.faults
+      → way.entries new ≡ way.entries (get_or agents router.number d)
       → Adds s s' (Archived router)
-      → Does stands t line agents (set agents router.number new) s s' was now
-  does_archive router is later still more call rose adds start history seg old fits =
+      → Does way stands t line agents (set agents router.number new) s s' was now
+  does_archive router is later still more call rose entries adds start history seg old fits =
       let event = archived router.number [] [] in
       let r0 = router.number in
       let V : What → Type 0 = λ w. IsWithin (count t) (length t.sigs) w in
@@ -154,7 +167,7 @@ module _ {A : Type 0} (stands : Standing A) (t : Trace) (line : Line) (agents : 
       let L = λ (f : Splits). ledger (rules_of t) r0 (F f) in
       let u0 = old.us r0 in
       let u1 = with_more u0 more in
-      let had = λ (f : Splits). stands_at stands t start history seg agents s s' was now old f r0 d l0 in
+      let had = λ (f : Splits). stands_at way stands t start history seg agents s s' was now old f r0 d l0 in
       let us : ℕ → Unfinished = λ r. cond (r == r0) u1 (old.us r) in
       let us_own : us r0 ≡ u1 = ap (λ b. cond b u1 u0) (eq-eqb r0 r0 refl) in
       let us_other : (r : ℕ) → r ≢ r0 → us r ≡ old.us r = λ r ne. ap (λ b. cond b u1 (old.us r)) (false_from_ne_true _ (λ b. ne (eqb-true r r0 b))) in
@@ -179,7 +192,7 @@ module _ {A : Type 0} (stands : Standing A) (t : Trace) (line : Line) (agents : 
       }) in (
         event,
         subst W (sym is) refl,
-        stands_more stands t start history seg agents s s' was now old line.number event r0 new us l0
+        stands_more way stands t start history seg agents s s' was now old line.number event r0 new us l0
             (λ f.
             let P : Ledger → Type 0 = λ l. stands new R l (us r0) in
             let Q : Unfinished → Type 0 = λ u. stands new R (at_archive (L f)) u in
@@ -190,7 +203,7 @@ module _ {A : Type 0} (stands : Standing A) (t : Trace) (line : Line) (agents : 
             (λ f x h.
             let P : Unfinished → Type 0 = λ u. Contains u.bits_put x in
             ⊎_elim (λ (a : Contains u0.bits_put x). absurd (no_bits x a)) (λ (b : Contains more.bits_put x). call.closed R (L f) u0 (had f) x b) (Contains-append_cases u0.bits_put more.bits_put x (subst P us_own h)))
-            refl (once, l0) fits.place adds (λ f. tt) (λ f. tt)
+            alone d (none_more entries) (λ r ne. refl) refl (once, l0) fits.place adds (λ f. tt) (λ f. tt)
             (λ f hyp. (
               (λ r closings l came. ⊎_elim
                   (λ (e : r ≡ r0).
@@ -237,9 +250,10 @@ module _ {A : Type 0} (stands : Standing A) (t : Trace) (line : Line) (agents : 
   pub does_watch : (router : RouterId) (packet : ℕ) (sig : Sig) (answer : Watch) → line.what ≡ what.Watch router packet → slice_get t.sigs packet ≡ Some sig
       → ((rules : Rules) (l : Ledger) (u : Unfinished) → stands (get_or agents router.number d) rules l u → answer ≡ watch_of rules l s.clock sig)
       → ((rules : Rules) (l : Ledger) (u : Unfinished) → stands (get_or agents router.number d) rules l u → stands new rules l u)
+      → way.entries new ≡ way.entries (get_or agents router.number d)
       → Adds s s' (Watched answer)
-      → Does stands t line agents (set agents router.number new) s s' was was
-  does_watch router packet sig answer is known call keeps adds start history seg old fits =
+      → Does way stands t line agents (set agents router.number new) s s' was was
+  does_watch router packet sig answer is known call keeps entries adds start history seg old fits =
       let event = watched router.number sig answer in
       let r0 = router.number in
       let V : What → Type 0 = λ w. IsWithin (count t) (length t.sigs) w in
@@ -247,14 +261,15 @@ module _ {A : Type 0} (stands : Standing A) (t : Trace) (line : Line) (agents : 
       let W : What → Type 0 = λ w. IsEventOf t.sigs w event in
       let F = λ (f : Splits). filled f seg history in
       let L = λ (f : Splits). ledger (rules_of t) r0 (F f) in
-      let had = λ (f : Splits). stands_at stands t start history seg agents s s' was was old f r0 d l0 in (
+      let had = λ (f : Splits). stands_at way stands t start history seg agents s s' was was old f r0 d l0 in (
         event,
         subst W (sym is) (refl, known),
-        stands_more stands t start history seg agents s s' was was old line.number event r0 new old.us l0
+        stands_more way stands t start history seg agents s s' was was old line.number event r0 new old.us l0
             (λ f. keeps (rules_of t r0) (L f) (old.us r0) (had f))
-            (λ f r ne. refl) (λ r ne. refl) old.us_none (λ f x h. old.us_closed f r0 x h) refl tt fits.place adds (λ f. tt)
+            (λ f r ne. refl) (λ r ne. refl) old.us_none (λ f x h. old.us_closed f r0 x h)
+            alone d (none_more entries) (λ r ne. refl) refl tt fits.place adds (λ f. tt)
             (λ f. let Q : ℕ → Type 0 = λ c. answer ≡ watch_of (rules_of t r0) (L f) c sig in
-            subst Q (clock_at stands t start history seg agents s s' was was old f) (call (rules_of t r0) (L f) (old.us r0) (had f)))
+            subst Q (clock_at way stands t start history seg agents s s' was was old f) (call (rules_of t r0) (L f) (old.us r0) (had f)))
             (λ f hyp. (hyp, tt))
-            (kept_with stands t start history seg agents s s' was was old line.number event r0 (λ f r ne. refl) (λ f h. h)),
+            (kept_with way stands t start history seg agents s s' was was old line.number event r0 (λ f r ne. refl) (λ f h. h)),
       )

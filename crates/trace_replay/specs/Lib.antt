@@ -1,8 +1,15 @@
 pub mod Agents
 pub mod Asking
+pub mod Aways
 pub mod Barriers
+pub mod Concluding
+pub mod Dealt
 pub mod Loop
+pub mod Merging
+pub mod Operated
+pub mod Operating
 pub mod Printing
+pub mod Segmenting
 pub mod Segments
 pub mod Sights
 pub mod Standing

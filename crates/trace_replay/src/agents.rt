@@ -2,12 +2,12 @@
 ghost use Rattle.std.specs.Prelude.{◌≤◌, IfOk, OnOk};
 ghost use Rattle.std.specs.List.{All};
 ghost use Rattle.spie_base.specs.Shapes.{AreInRange};
-ghost use Rattle.data_agent.specs.Planes.{IsPrepared};
+ghost use Rattle.data_agent.specs.Planes.{IsPrepared, entries_of};
 ghost use Rattle.data_agent.specs.Seeing.{shown_by, told_by};
 ghost use Rattle.data_agent.specs.Standing.{StandsFor};
 ghost use Rattle.trace_replay.specs.Agents.{IsReady, PassesAll, IsPast, SeesAll};
 ghost use Rattle.router_account.specs.Shelves.{view_of};
-ghost use Rattle.trace_replay.specs.Yards.{AreBeside, AreOpened, IsStanding, AllKeepStanding};
+ghost use Rattle.trace_replay.specs.Yards.{AreBeside, AreOpened, IsStanding, AllKeepStanding, AllKeepEntries};
 
 use data_agent::{Agent, Barrier, Sight};
 use page_gate::Plane;
@@ -47,6 +47,7 @@ pub fn pass_all<H: Shelf>(
     requires beside { AreBeside planes.now agents.old }
     requires ready { All (IsReady StandsFor clock tick) agents.old }
     ensures beside { OnOk result (AreBeside planes.now agents.new) }
+    ensures entries { OnOk result (AllKeepEntries entries_of agents.old agents.new) }
     ensures passed { IfOk result (λ barriers. PassesAll StandsFor clock tick agents.old agents.new barriers.items
         (view_of H.tells H.contents H.faults shelf.old) (view_of H.tells H.contents H.faults shelf.new)) }
 {
@@ -65,6 +66,7 @@ pub fn prepare_all(alloc: Global, planes: &[Plane], agents: &mut [Agent]) -> Res
     ensures beside { OnOk result (AreBeside planes.now agents.new) }
     ensures prepared { OnOk result (All IsPrepared agents.new) }
     ensures same { OnOk result (AllKeepStanding StandsFor agents.old agents.new) }
+    ensures entries { OnOk result (AllKeepEntries entries_of agents.old agents.new) }
 {
     for (router, agent) in agents.iter_mut().enumerate() {
         agent.prepare(alloc, &planes[router])?;

@@ -12,12 +12,16 @@ ghost use Rattle.trace_replay.specs.Segments.{item_by, numbered, pending_items};
 
 use crate::state::Answer;
 use data_agent::{Archived, Barrier, Closed};
-use report_text::{Item, push_item};
+use report_text::{Item, push_entered, push_item};
 use router_account::Watch;
 use spie_base::{List, NoMemory, PageNo, RouterId};
 use std::alloc::Global;
 use topology::Topology;
 use trace_format::Line;
+
+// Bytes of most lines of a segment: seven digits of a line, a word, a page. They are reserved at once, since a report that
+// outgrows its memory is copied.
+const LINE_BYTES: usize = 16;
 
 fn copied(alloc: Global, pages: &List<PageNo>) -> Result<List<PageNo>, NoMemory>
     ensures { IfOk result (λ copy. copy ≡ pages.now) }
@@ -91,6 +95,9 @@ fn push_one(
     requires named { IsAnswerNamed (length topology.now.names) answer }
     ensures { OnOk result (out.new.items ≡ out.old.items ++ item_text topology.now.names (item_by (splits_of barriers.now) line answer)) }
 {
+    if let Answer::Entered(page) = answer {
+        return push_entered(out, line, page);
+    }
     push_item(out, topology, &answer_item(alloc, line, answer, barriers)?)?;
     Ok(())
 }
@@ -112,6 +119,7 @@ pub fn push_answers(
     ensures { OnOk result (AddsItems topology.now.names
         (pending_items (splits_of barriers.now) (numbered lines.now first answers.now)) out.old.items out.new.items) }
 {
+    out.reserve(answers.len().saturating_mul(LINE_BYTES))?;
     for place in 0..answers.len() {
         let line = lines[first + place].number;
         push_one(alloc, out, topology, line, answers[place], barriers)?;

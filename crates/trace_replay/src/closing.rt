@@ -1,5 +1,5 @@
 // The lines that end a segment.
-ghost use Rattle.std.specs.Prelude.{◌≡◌, ◌<◌, ◌+◌, true, OnOk, length};
+ghost use Rattle.std.specs.Prelude.{ℕ, ◌≡◌, ◌<◌, ◌+◌, true, OnOk, length};
 ghost use Rattle.topology.specs.Layout.{IsSound as IsSoundLayout};
 ghost use Rattle.std.specs.List.{All};
 ghost use Rattle.trace_format.specs.declared.What.TheVariants.{Tick, Query, End};
@@ -9,7 +9,7 @@ ghost use Rattle.router_account.specs.Shelves.{view_of};
 ghost use Rattle.trace_replay.specs.Barriers.{PrintsPending, Prints, tick_items, end_items};
 ghost use Rattle.trace_replay.specs.Printing.{IsAnswerNamed};
 ghost use Rattle.trace_replay.specs.Standing.{IsNext, Closes};
-ghost use Rattle.trace_replay.specs.Yards.{AreBeside};
+ghost use Rattle.trace_replay.specs.Yards.{AreBeside, by_workers};
 
 use crate::agents::{pass_all, prepare_all, see_all};
 use crate::barriers::{push_answers, push_closed, push_left};
@@ -101,11 +101,11 @@ fn tick<H: Shelf>(
 ) -> Result<(), NoMemory>
     requires is { line.now.what ≡ Tick time }
     requires beside { AreBeside planes.now agents.old }
-    requires ready { IsNext StandsFor trace.now line.now agents.old state.old
+    requires ready { (W : ℕ) × IsNext (by_workers W) StandsFor trace.now line.now agents.old state.old
         (view_of H.tells H.contents H.faults shelf.old) }
     ensures beside { OnOk result (AreBeside planes.now agents.new) }
-    ensures closes { OnOk result (Closes StandsFor trace.now line.now agents.old agents.new state.old state.new
-        (view_of H.tells H.contents H.faults shelf.old) (view_of H.tells H.contents H.faults shelf.new)) }
+    ensures closes { OnOk result ((W : ℕ) → Closes (by_workers W) StandsFor trace.now line.now agents.old agents.new
+        state.old state.new (view_of H.tells H.contents H.faults shelf.old) (view_of H.tells H.contents H.faults shelf.new)) }
 {
     let barriers = pass_all(alloc, shelf, time, true, planes, agents)?;
     print_answers(alloc, trace, &barriers, state)?;
@@ -124,11 +124,11 @@ fn end<H: Shelf>(
 ) -> Result<(), NoMemory>
     requires is { line.now.what ≡ End }
     requires beside { AreBeside planes.now agents.old }
-    requires ready { IsNext StandsFor trace.now line.now agents.old state.old
+    requires ready { (W : ℕ) × IsNext (by_workers W) StandsFor trace.now line.now agents.old state.old
         (view_of H.tells H.contents H.faults shelf.old) }
     ensures beside { OnOk result (AreBeside planes.now agents.new) }
-    ensures closes { OnOk result (Closes StandsFor trace.now line.now agents.old agents.new state.old state.new
-        (view_of H.tells H.contents H.faults shelf.old) (view_of H.tells H.contents H.faults shelf.new)) }
+    ensures closes { OnOk result ((W : ℕ) → Closes (by_workers W) StandsFor trace.now line.now agents.old agents.new
+        state.old state.new (view_of H.tells H.contents H.faults shelf.old) (view_of H.tells H.contents H.faults shelf.new)) }
 {
     let barriers = pass_all(alloc, shelf, state.clock, false, planes, agents)?;
     print_answers(alloc, trace, &barriers, state)?;
@@ -151,11 +151,11 @@ fn query<H: Shelf>(
     requires is { line.now.what ≡ Query router packet time }
     requires links { IsSoundLayout trace.now.topology }
     requires beside { AreBeside planes.now agents.old }
-    requires ready { IsNext StandsFor trace.now line.now agents.old state.old
+    requires ready { (W : ℕ) × IsNext (by_workers W) StandsFor trace.now line.now agents.old state.old
         (view_of H.tells H.contents H.faults shelf.old) }
     ensures beside { OnOk result (AreBeside planes.now agents.new) }
-    ensures closes { OnOk result (Closes StandsFor trace.now line.now agents.old agents.new state.old state.new
-        (view_of H.tells H.contents H.faults shelf.old) (view_of H.tells H.contents H.faults shelf.new)) }
+    ensures closes { OnOk result ((W : ℕ) → Closes (by_workers W) StandsFor trace.now line.now agents.old agents.new
+        state.old state.new (view_of H.tells H.contents H.faults shelf.old) (view_of H.tells H.contents H.faults shelf.new)) }
 {
     let sig = sig_of(trace, packet);
     let barriers = pass_all(alloc, shelf, state.clock, false, planes, agents)?;
@@ -180,11 +180,11 @@ pub fn line_closing<H: Shelf>(
     requires barrier { is_barrier_line line.now.what ≡ true }
     requires links { IsSoundLayout trace.now.topology }
     requires beside { AreBeside planes.now agents.old }
-    requires ready { IsNext StandsFor trace.now line.now agents.old state.old
+    requires ready { (W : ℕ) × IsNext (by_workers W) StandsFor trace.now line.now agents.old state.old
         (view_of H.tells H.contents H.faults shelf.old) }
     ensures beside { OnOk result (AreBeside planes.now agents.new) }
-    ensures closes { OnOk result (Closes StandsFor trace.now line.now agents.old agents.new state.old state.new
-        (view_of H.tells H.contents H.faults shelf.old) (view_of H.tells H.contents H.faults shelf.new)) }
+    ensures closes { OnOk result ((W : ℕ) → Closes (by_workers W) StandsFor trace.now line.now agents.old agents.new
+        state.old state.new (view_of H.tells H.contents H.faults shelf.old) (view_of H.tells H.contents H.faults shelf.new)) }
 {
     match line.what {
         What::Tick { time } => tick(alloc, trace, line, time, shelf, planes, agents, state),

@@ -2,24 +2,29 @@
 //!
 //! # What is promised
 //!
-//! The central contract is that of `replay_alone`: the report, the totals, what the shelf came to and what is left in the yard
-//! are those of a history of the trace's lines, by the definitions of `trace_history`. `sights_alone` stops at a query, and
-//! says what it sees of each router, by such a history. `laws` has what holds of every history.
+//! The central contract is that of `replay`: the report, the totals, what the shelf came to and what is left in the yard are those
+//! of a history of the trace's lines as so many workers may have done them, by the definitions of `trace_history`. `replay_alone`
+//! is that with one worker, without threads. `sights_alone` stops at a query, and says what it sees of each router, by such a
+//! history. `laws` has what holds of every history.
 //!
 //! # The yard
 //!
 //! Each router has a plane, the shared words of its pages, and an agent, which keeps that plane. A replay opens them, and leaves
 //! them in the `Yard` that it was lent: by its contract the entries of each agent are what its router recorded, in the order in which
-//! workers gathered them. Planes and agents stand in two lists, since workers will record in all planes at the same time,
-//! while one thread changes the agents. Each step within keeps that each agent works on the plane beside it
+//! workers gathered them. Planes and agents stand in two lists, since workers record in all planes at the same time, while
+//! one thread changes the agents. Each step within keeps that each agent works on the plane beside it
 //! (`specs/Yards`).
 //!
 //! # Segment by segment
 //!
 //! How an archival splits its pages into those that are put and those that are kept is known at the next barrier alone.
-//! So the lines of a segment are answered one after another into a list, and printed at the barrier that ends it: a tick, a
-//! query or the end. Until then all is said of every way in which the archivals may split, and at the barrier it is
-//! taken for the one that came.
+//! So the lines of a segment are answered into a list, and printed at the barrier that ends it: a tick, a query or the end.
+//! Until then all is said of every way in which the archivals may split, and at the barrier it is taken for the one that
+//! came.
+//!
+//! One worker does the lines one after another, and each is right as it is done (`lines`). Several do a segment at once
+//! (`segment`): its receipts and watches are right as a whole, which `specs/Standing` says of the segment that has not ended, and
+//! the barrier hands on to the history. So the barrier is the same with any number of workers.
 //!
 //! # The barrier
 //!
@@ -27,23 +32,30 @@
 //! pages go. Then the segment's lines are printed, and the barrier's own. A query is answered behind that, once the agents were
 //! made ready for it.
 //!
-//! Read `yard` and `replay` first, then `state`, `lines` (within a segment), `agents` (all routers at a barrier), `closing`
-//! (barriers), `barriers`, `queries`, `printing` and `sights`.
+//! Read `yard` and `alone` first, then `state`, `lines` (within a segment), `agents` (all routers at a barrier), `closing`
+//! (barriers), `barriers`, `queries`, `printing` and `sights`; for several workers `segments` and `segment`.
 #![tactic(auto)]
 
 mod agents;
+mod alone;
 mod barriers;
 mod closing;
+mod conclude;
 pub mod laws;
 mod lines;
+mod operator;
+mod passes;
 mod printing;
 mod queries;
-mod replay;
+mod segment;
+mod segments;
 mod sights;
 mod state;
 mod yard;
 
-pub use replay::{Replayed, replay_alone};
+pub use alone::{Replayed, replay_alone};
+pub use segments::replay;
 pub use sights::{has_query, sights_alone};
 pub use trace_history::Totals;
+pub use trace_workers::{Free, Turnstile};
 pub use yard::Yard;

@@ -5,7 +5,7 @@ ghost use Rattle.router_account.specs.Shelves.{ShelfView, view_of};
 ghost use Rattle.data_agent.specs.Standing.{StandsFor};
 ghost use Rattle.trace_replay.specs.Segments.{is_barrier_line};
 ghost use Rattle.trace_replay.specs.Standing.{IsNext, Does, Adds};
-ghost use Rattle.trace_replay.specs.Yards.{AreBeside};
+ghost use Rattle.trace_replay.specs.Yards.{AreBeside, by_workers};
 
 use crate::state::{Answer, State};
 use data_agent::Agent;
@@ -42,10 +42,10 @@ fn forward(
 ) -> Result<(), NoMemory>
     requires is { line.now.what ≡ Fwd router packet }
     requires beside { AreBeside planes.now agents.old }
-    requires ready { (now : ShelfView) × IsNext StandsFor trace.now line.now agents.old state.old now }
+    requires ready { (now : ShelfView) × IsNext (by_workers 1) StandsFor trace.now line.now agents.old state.old now }
     ensures beside { OnOk result (AreBeside planes.now agents.new) }
     ensures does { OnOk result ((now : ShelfView) →
-        Does StandsFor trace.now line.now agents.old agents.new state.old state.new now now) }
+        Does (by_workers 1) StandsFor trace.now line.now agents.old agents.new state.old state.new now now) }
 {
     let sig = sig_of(trace, packet);
     let at = router.number as usize;
@@ -69,10 +69,10 @@ fn transform(
 ) -> Result<(), NoMemory>
     requires is { line.now.what ≡ Xf router kind old new }
     requires beside { AreBeside planes.now agents.old }
-    requires ready { (now : ShelfView) × IsNext StandsFor trace.now line.now agents.old state.old now }
+    requires ready { (now : ShelfView) × IsNext (by_workers 1) StandsFor trace.now line.now agents.old state.old now }
     ensures beside { OnOk result (AreBeside planes.now agents.new) }
     ensures does { OnOk result ((now : ShelfView) →
-        Does StandsFor trace.now line.now agents.old agents.new state.old state.new now now) }
+        Does (by_workers 1) StandsFor trace.now line.now agents.old agents.new state.old state.new now now) }
 {
     let before = sig_of(trace, old);
     let sig = sig_of(trace, new);
@@ -95,10 +95,10 @@ fn rotate(
 ) -> Result<(), NoMemory>
     requires is { line.now.what ≡ Rotate router }
     requires beside { AreBeside planes.now agents.old }
-    requires ready { (now : ShelfView) × IsNext StandsFor trace.now line.now agents.old state.old now }
+    requires ready { (now : ShelfView) × IsNext (by_workers 1) StandsFor trace.now line.now agents.old state.old now }
     ensures beside { OnOk result (AreBeside planes.now agents.new) }
     ensures does { OnOk result ((now : ShelfView) →
-        Does StandsFor trace.now line.now agents.old agents.new state.old state.new now now) }
+        Does (by_workers 1) StandsFor trace.now line.now agents.old agents.new state.old state.new now now) }
 {
     let at = router.number as usize;
     let page = agents[at].rotate_alone(alloc, &planes[at], state.clock)?;
@@ -117,10 +117,10 @@ fn watch(
 ) -> Result<(), NoMemory>
     requires is { line.now.what ≡ WatchLine router packet }
     requires beside { AreBeside planes.now agents.old }
-    requires ready { (now : ShelfView) × IsNext StandsFor trace.now line.now agents.old state.old now }
+    requires ready { (now : ShelfView) × IsNext (by_workers 1) StandsFor trace.now line.now agents.old state.old now }
     ensures beside { OnOk result (AreBeside planes.now agents.new) }
     ensures does { OnOk result ((now : ShelfView) →
-        Does StandsFor trace.now line.now agents.old agents.new state.old state.new now now) }
+        Does (by_workers 1) StandsFor trace.now line.now agents.old agents.new state.old state.new now now) }
 {
     let sig = sig_of(trace, packet);
     let at = router.number as usize;
@@ -142,10 +142,10 @@ fn archive<H: Shelf>(
 ) -> Result<(), NoMemory>
     requires is { line.now.what ≡ Archive router }
     requires beside { AreBeside planes.now agents.old }
-    requires ready { IsNext StandsFor trace.now line.now agents.old state.old
+    requires ready { IsNext (by_workers 1) StandsFor trace.now line.now agents.old state.old
         (view_of H.tells H.contents H.faults shelf.old) }
     ensures beside { OnOk result (AreBeside planes.now agents.new) }
-    ensures does { OnOk result (Does StandsFor trace.now line.now agents.old agents.new state.old state.new
+    ensures does { OnOk result (Does (by_workers 1) StandsFor trace.now line.now agents.old agents.new state.old state.new
         (view_of H.tells H.contents H.faults shelf.old) (view_of H.tells H.contents H.faults shelf.new)) }
 {
     let at = router.number as usize;
@@ -166,10 +166,10 @@ pub fn line_within<H: Shelf>(
 ) -> Result<(), NoMemory>
     requires inner { is_barrier_line line.now.what ≡ false }
     requires beside { AreBeside planes.now agents.old }
-    requires ready { IsNext StandsFor trace.now line.now agents.old state.old
+    requires ready { IsNext (by_workers 1) StandsFor trace.now line.now agents.old state.old
         (view_of H.tells H.contents H.faults shelf.old) }
     ensures beside { OnOk result (AreBeside planes.now agents.new) }
-    ensures does { OnOk result (Does StandsFor trace.now line.now agents.old agents.new state.old state.new
+    ensures does { OnOk result (Does (by_workers 1) StandsFor trace.now line.now agents.old agents.new state.old state.new
         (view_of H.tells H.contents H.faults shelf.old) (view_of H.tells H.contents H.faults shelf.new)) }
 {
     match line.what {

@@ -7,7 +7,7 @@ ghost use Rattle.trace_replay.specs.Segments.{no_line};
 ghost use Rattle.trace_replay.specs.Sights.{query_time, time_at, HasQuery, AreSights};
 
 use crate::agents::{open_all, pass_all, prepare_all, see_all};
-use crate::replay::replay_lines;
+use crate::alone::replay_lines;
 use crate::yard::Yard;
 use data_agent::Sight;
 use page_shelf::Shelf;

@@ -15,4 +15,4 @@ loop-router-preserved c =
     let P : List PlaneId → Type 0 = λ xs. AreOpened rules (n + 1) xs c.push-in-loop-router.new.self.items in
     let Q : List Agent → Type 0 = λ xs. AreOpened rules (n + 1) (planes ++ c.in_ok-plane.plane ∷ []) xs in
     subst P (sym c.in_ok-push.ensures.items) (subst Q (sym c.in_ok-push-2.ensures.items)
-    (opened_push rules n planes agents c.in_ok-plane.plane c.in_ok-plane.agent c.loop-router.invariant e.own e.shape e.first))
+    (opened_push rules n planes agents c.in_ok-plane.plane c.in_ok-plane.agent c.loop-router.invariant e.own e.shape e.first e.entries))

@@ -1,8 +1,8 @@
-use Rattle.std.proofs.Common.{arith, get_or}
-use Rattle.data_agent.specs.Planes.{IsPrepared}
+use Rattle.std.proofs.Common.{arith}
+use Rattle.data_agent.specs.Planes.{IsPrepared, entries_of}
 use Rattle.data_agent.specs.Standing.{StandsFor}
 use Rattle.trace_replay.proofs.Beside.{own_at, beside_at}
-use Rattle.trace_replay.proofs.Preparing.{each_set, kept_all, kept_set, kept_standing}
+use Rattle.trace_replay.proofs.Preparing.{each_set, entries_all, entries_set, kept_all, kept_set, kept_standing}
 use Rattle.trace_replay.proofs.agents.prepare_all.Goals as goal
 
 pub loop-router-init : goal.loop-router-init
@@ -10,6 +10,7 @@ loop-router-init c = record {
   beside = c.requires.beside;
   prepared = λ r a l. absurd (omega (arith, l));
   same = kept_all StandsFor c.args.agents.now;
+  entries = entries_all entries_of c.args.agents.now;
 }
 
 pub prepare-requires-clause-own : goal.prepare-requires-clause-own
@@ -35,4 +36,5 @@ loop-router-preserved c =
       beside = beside_at c.args.planes.now c.loop-router.agents i c.index-planes-router.result new so.beside (omega (arith, n)) c.index-planes-router.is e.own;
       prepared = each_set IsPrepared c.loop-router.agents new i (omega (arith, n)) so.prepared e.prepared;
       same = kept_set StandsFor c.args.agents.now c.loop-router.agents i d new (omega (arith, n)) so.same e.same;
+      entries = entries_set entries_of c.args.agents.now c.loop-router.agents i d new (omega (arith, n)) so.entries e.entries;
     }

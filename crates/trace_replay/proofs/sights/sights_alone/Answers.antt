@@ -1,4 +1,4 @@
-use Rattle.std.proofs.Common.{List, Vec, Global, false, ◌∙◌, length, take, sym, subst, arith}
+use Rattle.std.proofs.Common.{List, Vec, Global, false, ◌∙◌, sym, refl, subst, arith}
 use Rattle.std.specs.List.{All}
 use Rattle.std.proofs.lemmas.Result.{IfOk-weaker}
 use Rattle.data_agent.specs.Planes.{IsPrepared}
@@ -9,7 +9,7 @@ use Rattle.data_agent.specs.declared.Sight.{Sight}
 use Rattle.trace_replay.specs.Agents.{IsReady, IsPast, PassesAll, SeesAll}
 use Rattle.router_account.specs.Shelves.{view_of}
 use Rattle.trace_replay.specs.Sights.{AreSights}
-use Rattle.trace_replay.specs.Yards.{AllKeepStanding, IsStanding}
+use Rattle.trace_replay.specs.Yards.{AllKeepStanding, IsStanding, by_workers}
 use Rattle.trace_replay.proofs.Preparing.{passes_kept, past_standing}
 use Rattle.trace_replay.proofs.Sighted.{written_back, ready_there, past_there, sights_there}
 use Rattle.trace_replay.proofs.sights.sights_alone.Goals as goal
@@ -20,7 +20,7 @@ pass_all-requires-clause-ready g c =
     let agents = c.replay_lines.new.agents in
     let R = λ (xs : List Agent). All (IsReady StandsFor c.in_ok-state.state.clock false) xs in
     subst R (sym (c.deref_mut-2.ensures.value ∙ written_back c.in_ok-planes.agents.len c.in_ok-planes.agents.items agents (omega arith)))
-    (ready_there StandsFor shown_by told_by c.args.trace.now (view c.args.shelf.now) c.requires.sound agents c.in_ok-state.state (view c.replay_lines.new.shelf)
+    (ready_there (by_workers 1) StandsFor shown_by told_by c.args.trace.now (view c.args.shelf.now) c.requires.sound agents c.in_ok-state.state (view c.replay_lines.new.shelf)
     c.items-lines.result.now c.items-lines.ensures c.find_query-place.result.0 c.find_query-place.ensures.there c.in_ok-state.ensures.done
     c.args.line c.find_query-place.result.1 c.find_query-place.ensures.time)
 
@@ -36,7 +36,7 @@ prepare_all-requires-clause-stands g c =
     let first = c.deref_mut-2.ensures.value ∙ written_back c.in_ok-planes.agents.len c.in_ok-planes.agents.items agents (omega arith) in
     subst S (sym (c.deref_mut-3.ensures.value ∙ written_back c.in_ok-planes.agents.len _ passed (omega arith)))
     (past_standing StandsFor time passed
-    (past_there StandsFor shown_by told_by c.args.trace.now (view c.args.shelf.now) c.requires.sound agents c.in_ok-state.state (view c.replay_lines.new.shelf)
+    (past_there (by_workers 1) StandsFor shown_by told_by c.args.trace.now (view c.args.shelf.now) c.requires.sound agents c.in_ok-state.state (view c.replay_lines.new.shelf)
     c.items-lines.result.now c.items-lines.ensures c.find_query-place.result.0 c.find_query-place.ensures.there c.in_ok-state.ensures.done
     c.args.line time c.find_query-place.ensures.time passed (view c.pass_all.new.shelf) bs (subst P first c.in_ok-_barriers.ensures.passed)))
 
@@ -54,7 +54,7 @@ see_all-requires-clause-past g c =
     let first = c.deref_mut-2.ensures.value ∙ written_back c.in_ok-planes.agents.len c.in_ok-planes.agents.items agents (omega arith) in
     let second = c.deref_mut-3.ensures.value ∙ written_back c.in_ok-planes.agents.len _ passed (omega arith) in
     subst R (sym (c.deref-4.ensures.value ∙ written_back c.in_ok-planes.agents.len _ prepared (omega arith)))
-    (past_there StandsFor shown_by told_by c.args.trace.now (view c.args.shelf.now) c.requires.sound agents c.in_ok-state.state (view c.replay_lines.new.shelf)
+    (past_there (by_workers 1) StandsFor shown_by told_by c.args.trace.now (view c.args.shelf.now) c.requires.sound agents c.in_ok-state.state (view c.replay_lines.new.shelf)
     c.items-lines.result.now c.items-lines.ensures c.find_query-place.result.0 c.find_query-place.ensures.there c.in_ok-state.ensures.done
     c.args.line time c.find_query-place.ensures.time prepared (view c.pass_all.new.shelf) bs
     (passes_kept StandsFor c.in_ok-state.state.clock false agents passed prepared bs _ _ (subst P first c.in_ok-_barriers.ensures.passed) (subst K second c.in_ok-prepare_all.ensures.same)))
@@ -85,9 +85,9 @@ returns g c =
     IfOk-weaker c.see_all.result V W
     (λ sights sees.
     let S = λ (xs : List Agent). SeesAll StandsFor shown_by told_by time xs sights.items mid now in
-    sights_there StandsFor shown_by told_by t (view c.args.shelf.now) c.requires.sound agents c.in_ok-state.state (view c.replay_lines.new.shelf)
+    sights_there (by_workers 1) StandsFor shown_by told_by t (view c.args.shelf.now) c.requires.sound agents c.in_ok-state.state (view c.replay_lines.new.shelf)
     c.items-lines.result.now c.items-lines.ensures c.find_query-place.result.0 c.find_query-place.ensures.there c.in_ok-state.ensures.done
     c.args.line time c.find_query-place.ensures.time
-    prepared mid now bs (passes_kept StandsFor c.in_ok-state.state.clock false agents passed prepared bs _ _ (subst P first c.in_ok-_barriers.ensures.passed) (subst K second c.in_ok-prepare_all.ensures.same))
+    refl prepared mid now bs (passes_kept StandsFor c.in_ok-state.state.clock false agents passed prepared bs _ _ (subst P first c.in_ok-_barriers.ensures.passed) (subst K second c.in_ok-prepare_all.ensures.same))
     sights.items (subst S third sees))
     c.see_all.ensures
