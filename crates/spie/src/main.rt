@@ -1,8 +1,8 @@
 //! spie: replays a trace of a hash-based traceback system, or plays a script of steps of a router's gate, from
 //! standard input to standard output.
 //!
-//! `spie replay 1 < trace > report`, `spie replay 1 FOLDER < trace > report`, `spie play < script > answers`. Pages
-//! that are archived go to files in FOLDER, which has to be there, and without it to memory. It ends with the number of
+//! `spie replay W < trace > report`, `spie replay W FOLDER < trace > report`, `spie play < script > answers`. W is the
+//! number of workers, 1 to 16. Pages that are archived go to files in FOLDER, which has to be there, and without it to memory. It ends with the number of
 //! the run's status: 0 done, 2 unknown command or wrong arguments, 3 the input is refused, 4 the input can't be read,
 //! 5 the output can't be written, 6 there is no memory. Standard error says the same in a sentence.
 //!

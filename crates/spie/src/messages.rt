@@ -2,8 +2,8 @@
 use spie_base::Status;
 
 const USAGE: &str =
-    "usage: spie replay 1 < TRACE > REPORT            replays a trace with one worker
-       spie replay 1 FOLDER < TRACE > REPORT     the same, with archived pages in files of this folder
+    "usage: spie replay W < TRACE > REPORT            replays a trace with W workers, 1 to 16
+       spie replay W FOLDER < TRACE > REPORT     the same, with archived pages in files of this folder
        spie play < SCRIPT > ANSWERS              does the steps of a script on the gate of a router's pages
 example: spie replay 1 < examples/three_in_a_line.trace";
 

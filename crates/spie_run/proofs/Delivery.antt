@@ -1,6 +1,7 @@
 -- What a run's answers tell of its input and output, exit by exit.
 use Rattle.std.proofs.Common.{ℕ, ◌≡◌, ◌+◌, ◌<◌, List, [], ◌∷◌, ◌++◌, ◌∙◌, inl, inr, ⊎_elim, length, refl, sym, ap, subst, arith, lit<}
 use Rattle.std.specs.Prelude.{codes, Some, None, IsSome}
+use Rattle.std.specs.declared.option.Option.{Option}
 use Rattle.std.specs.Io.KnownBytes.{Consumes, Appends, IsAtEnd}
 use Rattle.std.proofs.lemmas.Fmt.{decimal_digit}
 use Rattle.spie_base.specs.Transfer.{TookCount}
@@ -11,12 +12,11 @@ use Rattle.trace_format.specs.Limits.{most_bytes}
 use Rattle.spie_run.specs.Refusals.{fault_text}
 use Rattle.spie_run.specs.declared.words.Command.{Command}
 use Rattle.spie_run.specs.declared.words.Command.TheVariants.{Replay, Play}
-use Rattle.spie_run.specs.Words.{command_of}
 use Rattle.spie_run.specs.Run.{Outputs, Refuses, Answers, Keeping, Views, Delivered, IsDone, IsRefused, IsCutShort, IsUntouched, HasFailed, Ran, kept_between}
 
 -- a script leaves shelf and yard as they are, and so does what is refused
 still_at : (command : Command) (kept : Keeping) (input output : List ℕ) → command ≡ Play → Outputs command kept input output → IsUntouched kept
-still_at Replay kept input output e made = absurd (let q : Replay ≡ Play = e in cc)
+still_at (Replay workers) kept input output e made = absurd (let q : Replay workers ≡ Play = e in cc)
 still_at Play kept input output e made = made.untouched
 
 still_by : (command : Command) (s : Status) (kept : Keeping) (input output : List ℕ) → command ≡ Play → Answers command s kept input output → IsUntouched kept
@@ -33,15 +33,15 @@ too_long_text : codes "refused 0 too-long\n" ≡ fault_text too_long
 too_long_text = ap (λ digits. codes "refused " ++ digits ++ 32 ∷ codes "too-long" ++ 10 ∷ []) (sym (decimal_digit 0 (lit< tt)))
 
 refused_long : (command : Command) (kept : Keeping) (input : List ℕ) → IsUntouched kept → most_bytes < length input → Refuses command kept input (codes "refused 0 too-long\n")
-refused_long Replay kept input same long = record { fault = too_long; first = inl (long, refl); says = too_long_text; untouched = same }
+refused_long (Replay workers) kept input same long = record { fault = too_long; first = inl (long, refl); says = too_long_text; untouched = same }
 refused_long Play kept input same long = record { fault = too_long; first = inl (long, refl); says = too_long_text; untouched = same }
 
 past_limit : (bytes : List ℕ) → length bytes ≡ most_bytes + 1 → most_bytes < length bytes
 past_limit bytes e = omega (arith, e)
 
 -- an unknown command or wrong arguments
-pub ran_usage : (words : List (List ℕ)) (v : Views) → command_of words ≡ None → Ran words v v status.Usage
-ran_usage words v none = record {
+pub ran_usage : (wanted : Option Command) (v : Views) → wanted ≡ None → Ran wanted v v status.Usage
+ran_usage wanted v none = record {
   done = λ e. absurd (let q : status.Usage ≡ status.Done = e in cc);
   refused = λ e. absurd (let q : status.Usage ≡ status.TraceRefused = e in cc);
   cut_short = λ e. absurd (let q : status.Usage ≡ status.WriteFault = e in cc);
@@ -58,15 +58,15 @@ ran_usage words v none = record {
   complete = λ some. absurd (let q : IsSome {T = Command} None = subst IsSome none some in cc);
 }
 
-module _ (words : List (List ℕ)) (before after : Views) (command : Command) (asked : command_of words ≡ Some command) where
-  no_usage : command_of words ≡ None → ⊥
+module _ (wanted : Option Command) (before after : Views) (command : Command) (asked : wanted ≡ Some command) where
+  no_usage : wanted ≡ None → ⊥
   no_usage none = let q : Some command ≡ None = sym asked ∙ none in cc
 
-  it_plays : command_of words ≡ Some Play → command ≡ Play
+  it_plays : wanted ≡ Some Play → command ≡ Play
   it_plays e = let q : Some command ≡ Some Play = sym asked ∙ e in cc
 
   -- the source failed
-  pub ran_unread : HasFailed before.source after.source → after.shelf ≡ before.shelf → after.yard ≡ before.yard → Ran words before after status.ReadFault
+  pub ran_unread : HasFailed before.source after.source → after.shelf ≡ before.shelf → after.yard ≡ before.yard → Ran wanted before after status.ReadFault
   ran_unread failed same unopened = record {
     done = λ e. absurd (let q : status.ReadFault ≡ status.Done = e in cc);
     refused = λ e. absurd (let q : status.ReadFault ≡ status.TraceRefused = e in cc);
@@ -85,7 +85,7 @@ module _ (words : List (List ℕ)) (before after : Views) (command : Command) (a
   }
 
   -- memory was refused
-  pub ran_no_memory : after.source.faults ≡ before.source.faults → after.sink.faults ≡ before.sink.faults → (command ≡ Play → after.shelf ≡ before.shelf) → after.yard ≡ before.yard → Ran words before after status.NoMemory
+  pub ran_no_memory : after.source.faults ≡ before.source.faults → after.sink.faults ≡ before.sink.faults → (command ≡ Play → after.shelf ≡ before.shelf) → after.yard ≡ before.yard → Ran wanted before after status.NoMemory
   ran_no_memory read kept still unopened = record {
     done = λ e. absurd (let q : status.NoMemory ≡ status.Done = e in cc);
     refused = λ e. absurd (let q : status.NoMemory ≡ status.TraceRefused = e in cc);
@@ -104,7 +104,7 @@ module _ (words : List (List ℕ)) (before after : Views) (command : Command) (a
   }
 
   -- the output is written whole
-  ran_done : IsDone words before after → after.source.faults ≡ before.source.faults → after.sink.faults ≡ before.sink.faults → (command ≡ Play → IsUntouched (kept_between before after)) → Ran words before after status.Done
+  ran_done : IsDone wanted before after → after.source.faults ≡ before.source.faults → after.sink.faults ≡ before.sink.faults → (command ≡ Play → IsUntouched (kept_between before after)) → Ran wanted before after status.Done
   ran_done is read kept still = record {
     done = λ e. is;
     refused = λ e. absurd (let q : status.Done ≡ status.TraceRefused = e in cc);
@@ -123,7 +123,7 @@ module _ (words : List (List ℕ)) (before after : Views) (command : Command) (a
   }
 
   -- the line of a refusal is written whole
-  ran_refused : IsRefused words before after → after.source.faults ≡ before.source.faults → after.sink.faults ≡ before.sink.faults → Ran words before after status.TraceRefused
+  ran_refused : IsRefused wanted before after → after.source.faults ≡ before.source.faults → after.sink.faults ≡ before.sink.faults → Ran wanted before after status.TraceRefused
   ran_refused is read kept = record {
     done = λ e. absurd (let q : status.TraceRefused ≡ status.Done = e in cc);
     refused = λ e. is;
@@ -142,7 +142,7 @@ module _ (words : List (List ℕ)) (before after : Views) (command : Command) (a
   }
 
   -- the sink failed
-  ran_cut_short : IsCutShort words before after → after.source.faults ≡ before.source.faults → HasFailed before.sink after.sink → (command ≡ Play → IsUntouched (kept_between before after)) → Ran words before after status.WriteFault
+  ran_cut_short : IsCutShort wanted before after → after.source.faults ≡ before.source.faults → HasFailed before.sink after.sink → (command ≡ Play → IsUntouched (kept_between before after)) → Ran wanted before after status.WriteFault
   ran_cut_short is read failed still = record {
     done = λ e. absurd (let q : status.WriteFault ≡ status.Done = e in cc);
     refused = λ e. absurd (let q : status.WriteFault ≡ status.TraceRefused = e in cc);
@@ -162,7 +162,7 @@ module _ (words : List (List ℕ)) (before after : Views) (command : Command) (a
 
   -- a text that is written whole ends the run as the answer says
   ran_whole : (want : Status) (text output : List ℕ) → Consumes before.source.bytes after.source.bytes text → IsAtEnd after.source.bytes → after.source.faults ≡ before.source.faults
-      → Answers command want (kept_between before after) text output → Appends before.sink.bytes after.sink.bytes output → after.sink.faults ≡ before.sink.faults → Ran words before after want
+      → Answers command want (kept_between before after) text output → Appends before.sink.bytes after.sink.bytes output → after.sink.faults ≡ before.sink.faults → Ran wanted before after want
   ran_whole status.Done text output took end read answers wrote kept =
       ran_done (record { command = command; input = text; output = output; asked = asked; read = took; at_end = end; made = answers; written = wrote }) read kept
       (λ e. still_by command status.Done (kept_between before after) text output e answers)
@@ -176,9 +176,9 @@ module _ (words : List (List ℕ)) (before after : Views) (command : Command) (a
 
   -- the input was read to its end, and its answer delivered
   pub ran_reply : (want answer : Status) (text output : List ℕ) → Consumes before.source.bytes after.source.bytes text → IsAtEnd after.source.bytes → after.source.faults ≡ before.source.faults
-      → Answers command want (kept_between before after) text output → Delivered want answer before.sink after.sink output → Ran words before after answer
+      → Answers command want (kept_between before after) text output → Delivered want answer before.sink after.sink output → Ran wanted before after answer
   ran_reply want answer text output took end read answers d =
-      let P : Status → Type 0 = λ s. Ran words before after s in
+      let P : Status → Type 0 = λ s. Ran wanted before after s in
       ⊎_elim
       (λ whole. subst P (sym whole.0) (ran_whole want text output took end read answers whole.1.0 whole.1.1))
       (λ cut.
@@ -189,10 +189,10 @@ module _ (words : List (List ℕ)) (before after : Views) (command : Command) (a
 
   -- the input is longer than its limit
   pub ran_long : (answer : Status) → TookCount before.source.bytes after.source.bytes (λ count. count ≡ most_bytes + 1) → after.source.faults ≡ before.source.faults
-      → Delivered status.TraceRefused answer before.sink after.sink (codes "refused 0 too-long\n") → IsUntouched (kept_between before after) → Ran words before after answer
+      → Delivered status.TraceRefused answer before.sink after.sink (codes "refused 0 too-long\n") → IsUntouched (kept_between before after) → Ran wanted before after answer
   ran_long answer took read d same =
       let refuses = refused_long command (kept_between before after) took.0 same (past_limit took.0 took.2) in
-      let P : Status → Type 0 = λ s. Ran words before after s in
+      let P : Status → Type 0 = λ s. Ran wanted before after s in
       ⊎_elim
       (λ whole.
       subst P (sym whole.0)

@@ -1,3 +1,5 @@
+pub mod Inputs
 pub mod Refusals
+pub mod Replies
 pub mod Run
 pub mod Words

@@ -1,7 +1,7 @@
 -- What a run answers, and what it reads, writes and keeps.
 --
--- Read `Ran` first, at the end: it is the promise of the program, by the arguments, the status, and what source, sink,
--- shelf and yard tell before the run and after it.
+-- Read `Ran` first, at the end: it is the promise of the program, by what the arguments ask for, the status, and what
+-- source, sink, shelf and yard tell before the run and after it.
 use Rattle.std.specs.Prelude.{ℕ, ◌+◌, ◌≤◌, ◌≡◌, ◌⊎◌, ◌↔◌, List, length, Some, None, IsSome}
 use Rattle.std.specs.declared.option.Option.{Option}
 use Rattle.std.specs.Io.KnownBytes.{Consumes, Appends, IsAtEnd}
@@ -23,7 +23,6 @@ use Rattle.trace_history.specs.Replay.{ReplayViews}
 use Rattle.trace_history.specs.Workers.{IsReplayedBy, YardView}
 use Rattle.trace_history.specs.declared.Totals.{Totals}
 use Rattle.spie_run.specs.Refusals.{fault_text}
-use Rattle.spie_run.specs.Words.{command_of}
 use Rattle.spie_run.specs.declared.words.Command.{Command}
 use Rattle.spie_run.specs.declared.words.Command.TheVariants.{Replay, Play}
 
@@ -37,12 +36,13 @@ pub record Keeping : Type 0 where
 abbrev pub IsUntouched : Keeping → Type 0
 IsUntouched kept = (kept.shelves.shelf_after ≡ kept.shelves.shelf_before) × (kept.yard_after ≡ kept.yard_before)
 
--- the input is a trace, and the output is the report of a replay of it by one worker over a shelf, which leaves the yard
-pub record Reports (kept : Keeping) (input output : List ℕ) : Type 0 where
+-- the input is a trace, and the output is the report of a replay of it by so many workers over a shelf, which leaves the
+-- yard
+pub record Reports (workers : ℕ) (kept : Keeping) (input output : List ℕ) : Type 0 where
   pub trace : Trace
   pub totals : Totals
   pub read : IsTrace input trace
-  pub replayed : IsReplayedBy 1 trace output totals kept.shelves kept.yard_after
+  pub replayed : IsReplayedBy workers trace output totals kept.shelves kept.yard_after
 
 -- the input is a script, and the output is the text of its steps, done in order from the start
 pub record Plays (kept : Keeping) (input output : List ℕ) : Type 0 where
@@ -53,12 +53,12 @@ pub record Plays (kept : Keeping) (input output : List ℕ) : Type 0 where
 
 -- the output is what the command makes of the input
 abbrev pub Outputs : Command → Keeping → (input output : List ℕ) → Type 0
-Outputs Replay kept input output = Reports kept input output
+Outputs (Replay workers) kept input output = Reports workers kept input output
 Outputs Play kept input output = Plays kept input output
 
 -- the first fault of an input that is no trace, or no script
 abbrev pub IsFaultFor : Command → (input : List ℕ) → TraceRefused → Type 0
-IsFaultFor Replay input fault = IsFault input fault
+IsFaultFor (Replay workers) input fault = IsFault input fault
 IsFaultFor Play input fault = script_text.IsFault input fault
 
 -- the input has a fault, the output says so, and shelf and yard were not used
@@ -122,33 +122,33 @@ pub record Delivered (want answer : Status) (before after : Told) (text : List �
 -- ---- the statuses
 
 -- Done: the input was read to its end, and what the arguments ask for was made of it and written
-pub record IsDone (words : List (List ℕ)) (before after : Views) : Type 0 where
+pub record IsDone (wanted : Option Command) (before after : Views) : Type 0 where
   pub command : Command
   pub input : List ℕ
   pub output : List ℕ
-  pub asked : command_of words ≡ Some command
+  pub asked : wanted ≡ Some command
   pub read : Consumes before.source.bytes after.source.bytes input
   pub at_end : IsAtEnd after.source.bytes
   pub made : Outputs command (kept_between before after) input output
   pub written : Appends before.sink.bytes after.sink.bytes output
 
 -- TraceRefused: the input was read out, it is refused, and the line that says so was written
-pub record IsRefused (words : List (List ℕ)) (before after : Views) : Type 0 where
+pub record IsRefused (wanted : Option Command) (before after : Views) : Type 0 where
   pub command : Command
   pub input : List ℕ
   pub output : List ℕ
-  pub asked : command_of words ≡ Some command
+  pub asked : wanted ≡ Some command
   pub read : IsReadOut before.source after.source input
   pub refuses : Refuses command (kept_between before after) input output
   pub written : Appends before.sink.bytes after.sink.bytes output
 
 -- WriteFault: the input was read out, what was to be written was made, and a prefix of it stands
-pub record IsCutShort (words : List (List ℕ)) (before after : Views) : Type 0 where
+pub record IsCutShort (wanted : Option Command) (before after : Views) : Type 0 where
   pub command : Command
   pub input : List ℕ
   pub status : Status
   pub output : List ℕ
-  pub asked : command_of words ≡ Some command
+  pub asked : wanted ≡ Some command
   pub read : IsReadOut before.source after.source input
   pub answers : Answers command status (kept_between before after) input output
   pub front : AppendsFront before.sink.bytes after.sink.bytes output
@@ -184,14 +184,14 @@ NoneFailed before after = (HasFailed before.source after.source → ⊥) × (Has
 abbrev pub CountsStay : (before after : Views) → Type 0
 CountsStay before after = (after.source.faults ≡ before.source.faults) × (after.sink.faults ≡ before.sink.faults)
 
--- A run with these arguments ended so
-pub record Ran (words : List (List ℕ)) (before after : Views) (answer : Status) : Type 0 where
+-- A run whose arguments ask for this, or for nothing where they are wrong, ended so
+pub record Ran (wanted : Option Command) (before after : Views) (answer : Status) : Type 0 where
   -- what was read and written
-  pub done : answer ≡ status.Done → IsDone words before after
-  pub refused : answer ≡ status.TraceRefused → IsRefused words before after
-  pub cut_short : answer ≡ status.WriteFault → IsCutShort words before after
+  pub done : answer ≡ status.Done → IsDone wanted before after
+  pub refused : answer ≡ status.TraceRefused → IsRefused wanted before after
+  pub cut_short : answer ≡ status.WriteFault → IsCutShort wanted before after
   -- when each status comes
-  pub usage : (answer ≡ status.Usage) ↔ (command_of words ≡ None)
+  pub usage : (answer ≡ status.Usage) ↔ (wanted ≡ None)
   pub never_no : answer ≡ status.No → ⊥
   pub read_fault : answer ≡ status.ReadFault → HasFailed before.source after.source
   pub write_fault : answer ≡ status.WriteFault → HasFailed before.sink after.sink
@@ -200,9 +200,9 @@ pub record Ran (words : List (List ℕ)) (before after : Views) (answer : Status
   pub read_first : answer ≡ status.WriteFault → after.source.faults ≡ before.source.faults
   -- the shelf stays as it was where nothing is replayed
   pub idle : IsIdle answer → after.shelf ≡ before.shelf
-  pub plays_alone : command_of words ≡ Some Play → after.shelf ≡ before.shelf
+  pub plays_alone : wanted ≡ Some Play → after.shelf ≡ before.shelf
   -- and the yard, but where a replay was done
   pub unopened : IsUnopened answer → after.yard ≡ before.yard
-  pub plays_no_yard : command_of words ≡ Some Play → after.yard ≡ before.yard
+  pub plays_no_yard : wanted ≡ Some Play → after.yard ≡ before.yard
   -- with right arguments and no fault a run is done, or its input is refused, or memory was refused
-  pub complete : IsSome (command_of words) → NoneFailed before after → IsFaultless answer
+  pub complete : IsSome wanted → NoneFailed before after → IsFaultless answer

@@ -1,26 +1,46 @@
 -- The arguments of the command line.
-use Rattle.std.specs.Prelude.{ℕ, List, [], ◌∷◌, ◌&&◌, Bool, true, false, codes, Some, None, if◌then◌else◌}
+use Rattle.std.specs.Prelude.{ℕ, ◌≤◌, List, [], ◌∷◌, ◌==◌, Bool, true, false, codes, Some, None, option_map, is_some, if◌then◌else◌}
 use Rattle.std.specs.Str.{bytes_eq}
 use Rattle.std.specs.declared.option.Option.{Option}
+use Rattle.gate_core.specs.declared.limits.TheConstants.{MOST_PASSES}
+use Rattle.spie_base.specs.Decimal.{number_in}
 use Rattle.spie_run.specs.declared.words.Command.{Command}
 use Rattle.spie_run.specs.declared.words.Command.TheVariants.{Replay, Play}
 
-abbrev pub is_replay : (word workers : List ℕ) → Bool
-is_replay word workers = bytes_eq word (codes "replay") && bytes_eq workers (codes "1")
+abbrev pub none_of_none : Option ℕ → Option ℕ
+none_of_none (Some workers) = if workers == 0 then None else Some workers
+none_of_none None = None
+
+-- how many workers a word asks for, from 1 to `most`
+abbrev pub workers_in : (most : ℕ) → (word : List ℕ) → Option ℕ
+workers_in most word = none_of_none (number_in word most)
+
+abbrev pub replay_of : (most : ℕ) → (word workers : List ℕ) → Option Command
+replay_of most word workers = if bytes_eq word (codes "replay") then option_map Replay (workers_in most workers) else None
 
 -- a folder's name has one byte at least
 abbrev pub is_named : (folder : List ℕ) → Bool
 is_named [] = false
 is_named (byte ∷ bytes) = true
 
--- what the arguments ask for, where they are `replay 1`, `replay 1 FOLDER` or `play`
-abbrev pub command_of : List (List ℕ) → Option Command
-command_of (word ∷ []) = if bytes_eq word (codes "play") then Some Play else None
-command_of (word ∷ workers ∷ []) = if is_replay word workers then Some Replay else None
-command_of (word ∷ workers ∷ folder ∷ []) = if is_replay word workers && is_named folder then Some Replay else None
-command_of _ = None
+-- what the arguments ask for, where they are `replay W`, `replay W FOLDER` or `play`, with `most` workers at most
+abbrev pub command_of : (most : ℕ) → List (List ℕ) → Option Command
+command_of most (word ∷ []) = if bytes_eq word (codes "play") then Some Play else None
+command_of most (word ∷ workers ∷ []) = replay_of most word workers
+command_of most (word ∷ workers ∷ folder ∷ []) = if is_named folder then replay_of most word workers else None
+command_of most _ = None
 
--- the folder of `replay 1 FOLDER`
+-- the folder of `replay W FOLDER`
 abbrev pub folder_of : List (List ℕ) → Option (List ℕ)
-folder_of (word ∷ workers ∷ folder ∷ []) = if is_replay word workers && is_named folder then Some folder else None
+folder_of (word ∷ workers ∷ folder ∷ []) = if is_some (command_of MOST_PASSES (word ∷ workers ∷ folder ∷ [])) then Some folder else None
 folder_of _ = None
+
+-- a command has from 1 to `most` workers, or none
+abbrev pub HasWorkers : (most : ℕ) → Command → Type 0
+HasWorkers most (Replay workers) = (1 ≤ workers) × (workers ≤ most)
+HasWorkers most Play = Unit {0}
+
+-- a command that waits for nobody: it has one worker, or none
+abbrev pub is_alone : Command → Bool
+is_alone (Replay workers) = workers == 1
+is_alone Play = true

@@ -1,13 +1,16 @@
 // What a command makes of an input.
-ghost use Rattle.std.specs.Prelude.{◌≡◌, List, [], IfOk, OnErr};
+ghost use Rattle.std.specs.Prelude.{◌≡◌, ◌≤◌, List, [], true, IfOk, IfErr, OnErr};
+ghost use Rattle.gate_core.specs.declared.limits.TheConstants.{MOST_PASSES};
 ghost use Rattle.play_script.specs.Report.{IsReport};
 ghost use Rattle.play_script.specs.Sound.{IsSound as IsSoundScript};
 ghost use Rattle.router_account.specs.Shelves.{ShelfView};
 ghost use Rattle.trace_format.specs.Sound.{IsSound};
-ghost use Rattle.trace_history.specs.Workers.{IsReplayedBy, YardView};
-ghost use Rattle.trace_history.specs.declared.Totals.{Totals};
+ghost use Rattle.trace_format.specs.Trace.{IsTrace};
+ghost use Rattle.trace_history.specs.Workers.{YardView};
 ghost use Rattle.trace_replay.specs.Agents.{views_of};
+ghost use Rattle.spie_run.specs.Replies.{IsRefusalOf, IsUnread};
 ghost use Rattle.spie_run.specs.Run.{Answers, keeping};
+ghost use Rattle.spie_run.specs.Words.{is_alone};
 
 use crate::refusals::fault_text;
 use crate::words::Command;
@@ -16,30 +19,16 @@ use page_shelf::Shelf;
 use play_script::{PlayScript, play_text, read_play};
 use spie_base::{NoMemory, Status};
 use std::alloc::Global;
-use trace_format::{ReadTraceRefused, Trace, read_trace};
-use trace_replay::{Yard, replay_alone};
+use std::sync::Wait;
+use std::thread::Threads;
+use trace_format::{ReadTraceRefused, Trace, TraceRefused, read_trace};
+use trace_replay::{Free, Yard, replay, replay_alone};
 
 /// What is written, and the status that goes with it.
 #[derive(Drop)]
 pub struct Reply {
     pub status: Status,
     pub text: Vec<u8>,
-}
-
-// The report of a replay.
-fn report_of<H: Shelf>(
-    alloc: Global,
-    trace: &Trace,
-    shelf: &mut H,
-    yard: &mut Yard,
-) -> Result<Vec<u8>, NoMemory>
-    requires sound { IsSound trace.now }
-    requires empty { yard.old ≡ [] }
-    ensures replayed { IfOk result (λ text. (totals : Totals)
-        × IsReplayedBy 1 trace.now text.items totals (views_of H.tells H.contents H.faults shelf.old shelf.new) yard.new) }
-    ensures unopened { OnErr result (yard.new ≡ yard.old) }
-{
-    Ok(replay_alone(alloc, trace, shelf, yard)?.report.into_vec())
 }
 
 // The text of a script's steps, done from the start.
@@ -49,33 +38,6 @@ fn played_text(alloc: Global, script: &PlayScript) -> Result<Vec<u8>, NoMemory>
 {
     let played = play(alloc, script.shape, script.passes, script.steps.items())?;
     play_text(alloc, &played, script)
-}
-
-// Lets go of the text once the trace is read.
-fn replayed<H: Shelf>(
-    alloc: Global,
-    text: Vec<u8>,
-    shelf: &mut H,
-    yard: &mut Yard,
-) -> Result<Reply, NoMemory>
-    requires { yard.old ≡ [] }
-    ensures answers { IfOk result (λ reply. Answers Command.Replay reply.status
-        (keeping (views_of H.tells H.contents H.faults shelf.old shelf.new) yard.old yard.new) text.items reply.text.items) }
-    ensures unopened { OnErr result (yard.new ≡ yard.old) }
-{
-    let read = read_trace(alloc, &text);
-    drop(text);
-    match read {
-        Ok(trace) => Ok(Reply {
-            status: Status::Done,
-            text: report_of(alloc, &trace, shelf, yard)?,
-        }),
-        Err(ReadTraceRefused::Refused(fault)) => Ok(Reply {
-            status: Status::TraceRefused,
-            text: fault_text(alloc, &fault)?,
-        }),
-        Err(ReadTraceRefused::NoMemory) => Err(NoMemory),
-    }
 }
 
 fn played(alloc: Global, text: Vec<u8>) -> Result<Reply, NoMemory>
@@ -97,22 +59,107 @@ fn played(alloc: Global, text: Vec<u8>) -> Result<Reply, NoMemory>
     }
 }
 
-/// What the command makes of an input, whose bytes are let go of once they are read.
-pub fn reply_to<H: Shelf>(
+// Why a text was not read as a trace.
+#[derive(Drop)]
+pub(crate) enum Unread {
+    NoMemory,
+    /// It has a fault, and this says so.
+    Refused(Reply),
+}
+
+// The trace that a text is. Lets go of the text.
+fn trace_of(alloc: Global, text: Vec<u8>) -> Result<Trace, Unread>
+    ensures trace { IfOk result (λ trace. IsTrace text.items trace × IsSound trace) }
+    ensures refused { IfErr result (λ why. IsUnread text.items why) }
+{
+    let read = read_trace(alloc, &text);
+    drop(text);
+    match read {
+        Ok(trace) => Ok(trace),
+        Err(ReadTraceRefused::Refused(fault)) => Err(refusal_of(alloc, &fault)),
+        Err(ReadTraceRefused::NoMemory) => Err(Unread::NoMemory),
+    }
+}
+
+// What says that a text has this fault, where there is memory for it.
+fn refusal_of(alloc: Global, fault: &TraceRefused) -> Unread
+    ensures { IsRefusalOf fault.now result }
+{
+    match fault_text(alloc, fault) {
+        Ok(text) => Unread::Refused(Reply {
+            status: Status::TraceRefused,
+            text,
+        }),
+        Err(NoMemory) => Unread::NoMemory,
+    }
+}
+
+fn replayed_alone<H: Shelf>(
+    alloc: Global,
+    text: Vec<u8>,
+    shelf: &mut H,
+    yard: &mut Yard,
+) -> Result<Reply, NoMemory>
+    requires { yard.old ≡ [] }
+    ensures answers { IfOk result (λ reply. Answers (Command.Replay 1) reply.status
+        (keeping (views_of H.tells H.contents H.faults shelf.old shelf.new) yard.old yard.new) text.items reply.text.items) }
+    ensures unopened { OnErr result (yard.new ≡ yard.old) }
+{
+    match trace_of(alloc, text) {
+        Ok(trace) => Ok(Reply {
+            status: Status::Done,
+            text: replay_alone(alloc, &trace, shelf, yard)?.report.into_vec(),
+        }),
+        Err(Unread::Refused(reply)) => Ok(reply),
+        Err(Unread::NoMemory) => Err(NoMemory),
+    }
+}
+
+/// What a command that waits for nobody makes of an input, whose bytes are let go of once they are read.
+pub fn reply_alone<H: Shelf>(
     alloc: Global,
     command: Command,
     text: Vec<u8>,
     shelf: &mut H,
     yard: &mut Yard,
 ) -> Result<Reply, NoMemory>
-    requires { yard.old ≡ [] }
+    requires alone { is_alone command ≡ true }
+    requires empty { yard.old ≡ [] }
     ensures answers { IfOk result (λ reply. Answers command reply.status
         (keeping (views_of H.tells H.contents H.faults shelf.old shelf.new) yard.old yard.new) text.items reply.text.items) }
     ensures untouched { command ≡ Command.Play → (shelf.new ≡ shelf.old) × (yard.new ≡ yard.old) }
     ensures unopened { OnErr result (yard.new ≡ yard.old) }
 {
     match command {
-        Command::Replay => replayed(alloc, text, shelf, yard),
+        Command::Replay { .. } => replayed_alone(alloc, text, shelf, yard),
         Command::Play => played(alloc, text),
+    }
+}
+
+/// What a replay by workers beside an operator makes of an input, whose bytes are let go of once they are read.
+pub fn reply_beside<R: Threads + Wait + Sync, H: Shelf + Send>(
+    rt: &R,
+    alloc: Global,
+    workers: u32,
+    text: Vec<u8>,
+    shelf: &mut H,
+    yard: &mut Yard,
+) -> Result<Reply, NoMemory>
+    requires least { 1 ≤ workers }
+    requires most { workers ≤ MOST_PASSES }
+    requires empty { yard.old ≡ [] }
+    ensures answers { IfOk result (λ reply. Answers (Command.Replay workers) reply.status
+        (keeping (views_of H.tells H.contents H.faults shelf.old shelf.new) yard.old yard.new) text.items reply.text.items) }
+    ensures unopened { OnErr result (yard.new ≡ yard.old) }
+{
+    match trace_of(alloc, text) {
+        Ok(trace) => Ok(Reply {
+            status: Status::Done,
+            text: replay(rt, alloc, &trace, shelf, yard, workers, &Free)?
+                .report
+                .into_vec(),
+        }),
+        Err(Unread::Refused(reply)) => Ok(reply),
+        Err(Unread::NoMemory) => Err(NoMemory),
     }
 }

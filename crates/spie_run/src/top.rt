@@ -1,11 +1,15 @@
 // The top call: reads the whole input, has the whole output made, and writes it.
-ghost use Rattle.std.specs.Prelude.{◌≡◌, ◌⊎◌, [], map, string_bytes};
+ghost use Rattle.std.specs.Prelude.{◌≡◌, ◌≤◌, ◌⊎◌, [], true, Some, IfOk, OnOk, IfErr, map, string_bytes};
+ghost use Rattle.gate_core.specs.declared.limits.TheConstants.{MOST_PASSES};
 ghost use Rattle.spie_base.specs.declared.Status.{Status};
 ghost use Rattle.router_account.specs.Shelves.{view_of};
+ghost use Rattle.spie_run.specs.Inputs.{EndsUnread, IsInput};
 ghost use Rattle.spie_run.specs.Run.{told, views, Delivered, Ran};
+ghost use Rattle.spie_run.specs.Words.{command_of, is_alone};
 
-use crate::replies::reply_to;
-use crate::words::command_of;
+use crate::replies::{reply_alone, reply_beside};
+use crate::words::{Command, command_of};
+use gate_core::MOST_PASSES;
 use page_shelf::Shelf;
 use spie_base::{NoMemory, ReadRefused, Sink, Source, Status, WriteFailed, read_all, write_all};
 use std::alloc::Global;
@@ -27,11 +31,88 @@ fn deliver<K: Sink>(sink: &mut K, status: Status, text: &[u8]) -> Status
     }
 }
 
+// Reads a whole input, or ends the run.
+fn input<S: Source, K: Sink>(alloc: Global, source: &mut S, sink: &mut K) -> Result<Vec<u8>, Status>
+    ensures text { IfOk result (λ text. IsInput (told S.left S.faults source.old) (told S.left S.faults source.new) text.items) }
+    ensures unused { OnOk result (sink.new ≡ sink.old) }
+    ensures ended { IfErr result (λ status. EndsUnread
+        (told S.left S.faults source.old) (told K.written K.faults sink.old)
+        (told S.left S.faults source.new) (told K.written K.faults sink.new) status) }
+    ensures unwritten { IfErr result (λ status.
+        (status ≡ Status.ReadFault ⊎ status ≡ Status.NoMemory) → sink.new ≡ sink.old) }
+    ensures no_usage { IfErr result (λ status. status ≡ Status.Usage → ⊥) }
+{
+    match read_all(alloc, source, MOST_BYTES) {
+        Ok(text) => Ok(text),
+        Err(ReadRefused::TooLong) => Err(deliver(sink, Status::TraceRefused, TOO_LONG)),
+        Err(ReadRefused::Failed) => Err(Status::ReadFault),
+        Err(ReadRefused::NoMemory) => Err(Status::NoMemory),
+    }
+}
+
+// Runs a command that waits for nobody.
+fn run_command<S: Source, K: Sink, H: Shelf>(
+    alloc: Global,
+    command: Command,
+    source: &mut S,
+    sink: &mut K,
+    shelf: &mut H,
+    yard: &mut Yard,
+) -> Status
+    requires alone { is_alone command ≡ true }
+    requires empty { yard.old ≡ [] }
+    ensures ran { Ran (Some command)
+        (views (told S.left S.faults source.old) (told K.written K.faults sink.old)
+        (view_of H.tells H.contents H.faults shelf.old) yard.old)
+        (views (told S.left S.faults source.new) (told K.written K.faults sink.new)
+        (view_of H.tells H.contents H.faults shelf.new) yard.new) result }
+    ensures unwritten { (result ≡ Status.ReadFault ⊎ result ≡ Status.NoMemory) → sink.new ≡ sink.old }
+{
+    let text = match input(alloc, source, sink) {
+        Ok(text) => text,
+        Err(status) => return status,
+    };
+    match reply_alone(alloc, command, text, shelf, yard) {
+        Ok(reply) => deliver(sink, reply.status, &reply.text),
+        Err(NoMemory) => Status::NoMemory,
+    }
+}
+
+// Runs a replay by workers beside an operator.
+fn run_beside<R: Threads + Wait + Sync, S: Source, K: Sink, H: Shelf + Send>(
+    rt: &R,
+    alloc: Global,
+    workers: u32,
+    source: &mut S,
+    sink: &mut K,
+    shelf: &mut H,
+    yard: &mut Yard,
+) -> Status
+    requires least { 1 ≤ workers }
+    requires most { workers ≤ MOST_PASSES }
+    requires empty { yard.old ≡ [] }
+    ensures ran { Ran (Some (Command.Replay workers))
+        (views (told S.left S.faults source.old) (told K.written K.faults sink.old)
+        (view_of H.tells H.contents H.faults shelf.old) yard.old)
+        (views (told S.left S.faults source.new) (told K.written K.faults sink.new)
+        (view_of H.tells H.contents H.faults shelf.new) yard.new) result }
+    ensures unwritten { (result ≡ Status.ReadFault ⊎ result ≡ Status.NoMemory) → sink.new ≡ sink.old }
+{
+    let text = match input(alloc, source, sink) {
+        Ok(text) => text,
+        Err(status) => return status,
+    };
+    match reply_beside(rt, alloc, workers, text, shelf, yard) {
+        Ok(reply) => deliver(sink, reply.status, &reply.text),
+        Err(NoMemory) => Status::NoMemory,
+    }
+}
+
 /// Reads a whole input, does what the arguments ask for, and writes the whole output. `replay 1` asks for the report
 /// of a trace, and so does `replay 1 FOLDER`: which shelf the archived pages are put on is the caller's choice, by
 /// `shelf_word`. The trace's routers are left in the yard, where the report was made. `play` asks for what the steps of a
-/// script answered, and uses neither. An unknown command and wrong arguments are `Usage`. These commands wait for nobody,
-/// so the call returns.
+/// script answered, and uses neither. An unknown command and wrong arguments are `Usage`, and so is more than one
+/// worker. These commands wait for nobody, so the call returns.
 ///
 /// Nothing is written before the input was read, to its end or one byte past its limit of 64 MiB, and the
 /// output made whole. Takes the input, what is kept of it, the yard, and the output.
@@ -44,7 +125,7 @@ pub fn run_alone<S: Source, K: Sink, H: Shelf>(
     yard: &mut Yard,
 ) -> Status
     requires empty { yard.old ≡ [] }
-    ensures ran { Ran (map string_bytes words.now)
+    ensures ran { Ran (command_of 1 (map string_bytes words.now))
         (views (told S.left S.faults source.old) (told K.written K.faults sink.old)
         (view_of H.tells H.contents H.faults shelf.old) yard.old)
         (views (told S.left S.faults source.new) (told K.written K.faults sink.new)
@@ -53,22 +134,15 @@ pub fn run_alone<S: Source, K: Sink, H: Shelf>(
         → (source.new ≡ source.old) × (sink.new ≡ sink.old) × (shelf.new ≡ shelf.old) }
     ensures unwritten { (result ≡ Status.ReadFault ⊎ result ≡ Status.NoMemory) → sink.new ≡ sink.old }
 {
-    let Some(command) = command_of(words) else {
-        return Status::Usage;
-    };
-    match read_all(alloc, source, MOST_BYTES) {
-        Ok(text) => match reply_to(alloc, command, text, shelf, yard) {
-            Ok(reply) => deliver(sink, reply.status, &reply.text),
-            Err(NoMemory) => Status::NoMemory,
-        },
-        Err(ReadRefused::TooLong) => deliver(sink, Status::TraceRefused, TOO_LONG),
-        Err(ReadRefused::Failed) => Status::ReadFault,
-        Err(ReadRefused::NoMemory) => Status::NoMemory,
+    match command_of(words, 1) {
+        Some(command) => run_command(alloc, command, source, sink, shelf, yard),
+        None => Status::Usage,
     }
 }
 
-/// The run of the program; `rt` and `alloc` are those of the program. For commands that wait for nobody, as all do
-/// yet, it is `run_alone`.
+/// The run of the program; `rt` and `alloc` are those of the program. `replay W` and `replay W FOLDER` ask for the report
+/// of a trace replayed by W workers, 1 to 16; with 2 or more, threads of their own record beside the calling thread,
+/// which rotates, archives and watches, and the call may wait for them. All else is as `run_alone` does it.
 pub fn run<R: Threads + Wait + Sync, S: Source, K: Sink, H: Shelf + Send>(
     rt: &R,
     alloc: Global,
@@ -79,7 +153,7 @@ pub fn run<R: Threads + Wait + Sync, S: Source, K: Sink, H: Shelf + Send>(
     yard: &mut Yard,
 ) -> Status
     requires empty { yard.old ≡ [] }
-    ensures ran { Ran (map string_bytes words.now)
+    ensures ran { Ran (command_of MOST_PASSES (map string_bytes words.now))
         (views (told S.left S.faults source.old) (told K.written K.faults sink.old)
         (view_of H.tells H.contents H.faults shelf.old) yard.old)
         (views (told S.left S.faults source.new) (told K.written K.faults sink.new)
@@ -88,5 +162,11 @@ pub fn run<R: Threads + Wait + Sync, S: Source, K: Sink, H: Shelf + Send>(
         → (source.new ≡ source.old) × (sink.new ≡ sink.old) × (shelf.new ≡ shelf.old) }
     ensures unwritten { (result ≡ Status.ReadFault ⊎ result ≡ Status.NoMemory) → sink.new ≡ sink.old }
 {
-    run_alone(alloc, words, source, sink, shelf, yard)
+    match command_of(words, MOST_PASSES) {
+        Some(Command::Replay { workers }) if workers > 1 => {
+            run_beside(rt, alloc, workers, source, sink, shelf, yard)
+        }
+        Some(command) => run_command(alloc, command, source, sink, shelf, yard),
+        None => Status::Usage,
+    }
 }
