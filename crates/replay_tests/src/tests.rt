@@ -1,5 +1,6 @@
 // Replays by one worker, and lines that are held among several.
 mod held_lines;
+mod one_report;
 
 use page_shelf::MemShelf;
 use spie_base::PageNo;
