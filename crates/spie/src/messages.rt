@@ -16,7 +16,10 @@ const REFUSALS: [(&str, &str); 22] = [
         "the input ends here, without a line end or without the line `end`",
     ),
     ("length", "the line has more than 4,096 bytes"),
-    ("word", "unknown command, or one that may not stand here"),
+    (
+        "word",
+        "the line does not begin with a word that may stand here",
+    ),
     (
         "fields",
         "wrong number of fields; one space stands between two fields",
@@ -46,7 +49,7 @@ const REFUSALS: [(&str, &str); 22] = [
     ),
     (
         "clock",
-        "the time of a tick must be above the clock, that of a query not",
+        "a tick's time must be above the clock, a query's at most the clock",
     ),
     (
         "twice",
