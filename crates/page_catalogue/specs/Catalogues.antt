@@ -22,7 +22,9 @@ pub record Catalogued : Type 0 where
 
 -- where a page is
 abbrev pub state_of : Catalogued → (page : ℕ) → PageState
-state_of c page = if nat_lt page c.gone then Expired else if is_closed c.closings page then slice_index_or c.places page Open else Open
+state_of c page =
+    if nat_lt page c.gone then Expired
+    else if is_closed c.closings page then slice_index_or c.places page Open else Open
 
 abbrev pub row_of : Catalogued → (page : ℕ) → PageRow
 row_of c page = record {

@@ -5,7 +5,8 @@ use Rattle.page_catalogue.specs.Pages.{is_expired, is_in_window, AreAscending}
 
 -- each window has a page
 abbrev pub WindowHasPage : Type 0
-WindowHasPage = (rules : Rules) (closings : List ℕ) (time : ℕ) → (page : ℕ) × IsTrue (is_in_window rules closings time page)
+WindowHasPage =
+    (rules : Rules) (closings : List ℕ) (time : ℕ) → (page : ℕ) × IsTrue (is_in_window rules closings time page)
 
 -- the pages before an expired one are expired
 abbrev pub ExpiredArePrefix : Type 0

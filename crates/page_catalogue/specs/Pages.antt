@@ -20,12 +20,14 @@ is_closed closings page = nat_lt page (length closings)
 -- whether a tick of this time closes the open page, of which so many bits are set: it has been open for the
 -- span, or it is full
 unfoldable pub is_due : Rules → List ℕ → (time bits : ℕ) → Bool
-is_due rules closings time bits = nat_le rules.span (time - opened closings (open_page closings)) || nat_le rules.limit bits
+is_due rules closings time bits =
+    nat_le rules.span (time - opened closings (open_page closings)) || nat_le rules.limit bits
 
 -- whether a page is expired at a barrier with this clock: enough later pages are closed, or it closed long ago
 unfoldable pub is_expired : Rules → List ℕ → (clock page : ℕ) → Bool
 is_expired rules closings clock page =
-    is_closed closings page && (nat_le (page + 1 + rules.keep) (length closings) || nat_le rules.age (clock - closed closings page))
+    is_closed closings page
+    && (nat_le (page + 1 + rules.keep) (length closings) || nat_le rules.age (clock - closed closings page))
 
 -- whether a page is in the window of a query for this time: it opened by then, and is open or closed no more
 -- than the width before

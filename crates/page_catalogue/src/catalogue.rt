@@ -32,7 +32,14 @@ impl Model for Catalogue {
 
     ghost Value = { Catalogued };
 
-    ghost view = { λ c. record { rules = c.rules; closings = c.closings.items; places = map state_in c.places.items; gone = c.gone; clock = c.clock; room = min (vec_capacity c.closings - vec_len c.closings) (vec_capacity c.places - vec_len c.places) } };
+    ghost view = { λ c. record {
+      rules = c.rules;
+      closings = c.closings.items;
+      places = map state_in c.places.items;
+      gone = c.gone;
+      clock = c.clock;
+      room = min (vec_capacity c.closings - vec_len c.closings) (vec_capacity c.places - vec_len c.places);
+    } };
 
     ghost invariant = { λ c. IsCatalogue c.rules c.closings.items (length c.places.items) c.gone c.clock };
 }
@@ -173,6 +180,13 @@ impl Catalogue {
         ensures { self.new ≡ record self.old { places = slice_set self.old.places page.number state } }
     {
         self.places[page.number as usize] = Place::of(state);
+    }
+
+    /// How many pages have expired. They are the first ones, so it is also the number of the first page that has not.
+    pub fn expired_count(&self) -> u32
+        ensures { result ≡ self.now.gone }
+    {
+        self.gone as u32
     }
 
     /// The pages that expire at this clock and had not expired before, where there are any. Costs a few compares for each.
