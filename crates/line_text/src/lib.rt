@@ -21,7 +21,7 @@
 //! once for all languages.
 #![tactic(auto)]
 
-mod backwards;
+mod in_place;
 mod text;
 mod writing;
 

@@ -2,7 +2,7 @@
 ghost use Rattle.std.specs.Prelude.{◌≡◌, ◌++◌, ◌∷◌, [], OnOk, decimal};
 ghost use Rattle.line_text.specs.Writing.{spaced, line_text};
 
-use crate::backwards::{MOST_WORD, ROOM, counted_in};
+use crate::in_place::{MOST_WORD, ROOM, TOO_LONG, counted_in};
 use itoa::Buffer;
 use spie_base::NoMemory;
 
@@ -47,19 +47,25 @@ pub fn push_word(out: &mut Vec<u8>, line: u64, word: &[u8]) -> Result<(), NoMemo
     push(out, b"\n")
 }
 
-/// Appends a line of its number, a word and a count.
+/// Appends a line of its number, a word and a count. Inlined, so that a word which the caller names is copied without a
+/// call.
+#[inline(always)]
 pub fn push_counted(out: &mut Vec<u8>, line: u64, word: &[u8], count: u64) -> Result<(), NoMemory>
     ensures { OnOk result (out.new.items ≡ out.old.items ++ line_text line (word.now ∷ decimal count ∷ [])) }
 {
-    if word.len() > MOST_WORD {
+    if line >= TOO_LONG || count >= TOO_LONG || word.len() > MOST_WORD {
         return push_parts(out, line, word, count);
     }
-    let mut buffer = [0; ROOM];
-    let start = counted_in(&mut buffer, line, word, count);
-    push(out, &buffer[start..])
+    let start = out.len();
+    out.resize(start + ROOM, 0)?;
+    let length = counted_in(&mut out[start..], line, word, count);
+    out.truncate(start + length);
+    Ok(())
 }
 
 // The same, part by part.
+#[cold]
+#[inline(never)]
 fn push_parts(out: &mut Vec<u8>, line: u64, word: &[u8], count: u64) -> Result<(), NoMemory>
     ensures { OnOk result (out.new.items ≡ out.old.items ++ line_text line (word.now ∷ decimal count ∷ [])) }
 {
