@@ -6,11 +6,11 @@ pub mod Gathered
 pub mod KeptSlots
 pub mod Places
 pub mod Probing
+pub mod Repeating
 pub mod Rising
 pub mod Rotating
 pub mod SealedSlots
 pub mod Settling
 pub mod SlotWith
-pub mod Sought
 pub mod Tells
 pub mod WholeWords

@@ -8,3 +8,4 @@ pub mod Pages
 pub mod Settled
 pub mod Rotated
 pub mod Probes
+pub mod Repeats

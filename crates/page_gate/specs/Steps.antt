@@ -1,14 +1,14 @@
 -- The rule of a plane's table, and what each step on it tells. No public clause cites this module but for `IsMet`.
-use Rattle.std.specs.Prelude.{◌≡◌, ◌==◌, ℕ, Bool, true, false, bit_or}
+use Rattle.std.specs.Prelude.{◌≡◌, ℕ}
 use Rattle.atomic_table.specs.Table.{State, Me, Step}
 use Rattle.atomic_table.specs.declared.shared.Seat.{Seat}
 use Rattle.spie_base.specs.declared.PageShape.{PageShape}
 use Rattle.gate_core.specs.declared.steps.Act.{Act}
-use Rattle.gate_core.specs.declared.steps.Act.TheVariants.{Look, Point, Set}
+use Rattle.gate_core.specs.declared.steps.Act.TheVariants.{Look, Point}
 use Rattle.gate_core.specs.declared.view.View.{View}
 use Rattle.gate_core.specs.declared.view.Role.TheVariants.{Spent}
 use Rattle.gate_core.specs.Views.{first_keeper}
-use Rattle.gate_core.specs.Acts.{Enabled, word_of, view_after, mask_of}
+use Rattle.gate_core.specs.Acts.{Enabled, word_of, view_after}
 use Rattle.gate_core.specs.Invariant.{PlaneInvariant, Met}
 
 abbrev pub Nothing : Type 0
@@ -40,18 +40,9 @@ Found shape a v n = Met shape v (word_of shape a v) n
 abbrev pub did : PageShape → Act → Step Nothing → Me Nothing View → ℕ → Me Nothing View → Type 0
 did shape a st m n m' = (m' ≡ (view_after shape a m.0 n, m.1)) × IsMet shape m.0 × Found shape a m.0 n × IsMet shape m'.0
 
--- nothing changed, and the rule holds
+-- nothing changed, the rule holds, and the word that was read was n
 abbrev pub attested : PageShape → Step Nothing → Me Nothing View → ℕ → Me Nothing View → Type 0
-attested shape st m n m' = (m' ≡ m) × IsMet shape m.0
-
--- a load of the word of a record's next mark: where it finds the mark's bit set it is the set, which changes no word then, and else
--- nothing changed
-abbrev pub sought_by : Bool → PageShape → Step Nothing → Me Nothing View → ℕ → Me Nothing View → Type 0
-sought_by true shape st m n m' = did shape Set st m n m'
-sought_by false shape st m n m' = m' ≡ m
-
-abbrev pub sought : PageShape → Step Nothing → Me Nothing View → ℕ → Me Nothing View → Type 0
-sought shape st m n m' = sought_by (bit_or n (mask_of shape m.0.state) == n) shape st m n m'
+attested shape st m n m' = (m' ≡ m) × Met shape m.0 st.word n
 
 -- the act is enabled for the seat
 abbrev pub Ready : PageShape → Act → Seat Nothing View → Type 0
@@ -69,8 +60,3 @@ pub record Acted (shape : PageShape) (a : Act) (before after : Seat Nothing View
   pub slots : after.me.1 ≡ before.me.1
   pub was : IsMet shape before.me.0
   pub met : IsMet shape after.me.0
-
--- the same of such a load: whether the bit was set, and then the seat did the set
-abbrev pub Sought : Bool → PageShape → (before after : Seat Nothing View) → Type 0
-Sought true shape before after = Acted shape Set before after 0
-Sought false shape before after = (after.table_id ≡ before.table_id) × (after.id ≡ before.id) × (after.me ≡ before.me)

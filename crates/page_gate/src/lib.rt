@@ -45,10 +45,11 @@
 //! # What is proved
 //!
 //! `told` has the rule and what each operation tells; `proofs/Allowed` shows by `gate_core`'s one lemma that each act
-//! is allowed. The central contracts are `try_record` (an entry more, or a visit of a gate that was sealed then), `record`
+//! is allowed; `proofs/Repeating` shows it of the keeper's record of marks that are all set, which changes no word and is one
+//! load. The central contracts are `try_record` (an entry more, or a visit of a gate that was sealed then), `record`
 //! (exactly one entry more), `gather`, and `record_alone`, which finds the open page unsealed; of the keeper's side
 //! `rotate`, `settle`, `collect`, `probe` and `snapshot`. Read `specs/Held`, `specs/Tried`, `specs/Slots` and
-//! `specs/Pages` first, then `record`, `seats` and `trying`, then `settle`, `collect`, `rotate` and `probe`, and
+//! `specs/Pages` first, then `record`, `seats`, `repeat` and `trying`, then `settle`, `collect`, `rotate` and `probe`, and
 //! `locked` last.
 #![tactic(auto)]
 
@@ -63,10 +64,10 @@ mod plane;
 mod probe;
 mod reading;
 mod record;
+mod repeat;
 mod rotate;
 mod seal;
 mod seats;
-mod seek;
 mod settle;
 mod slots;
 mod steps;

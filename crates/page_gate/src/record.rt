@@ -8,6 +8,7 @@ ghost use Rattle.gate_core.specs.declared.states.SlotPhase.TheVariants.{Open};
 ghost use Rattle.gate_core.specs.declared.view.Role.TheVariants.{Spent, Keeper as keeping};
 ghost use Rattle.gate_core.specs.Views.{slot_at};
 ghost use Rattle.gate_core.specs.Acts.{slot_of, moved_to};
+ghost use Rattle.page_gate.specs.Placed.{AreMarks};
 ghost use Rattle.page_gate.specs.Steps.{Ready, Acted, Found, IsMet};
 ghost use Rattle.page_gate.specs.Tried.{Tells, RecordedIn, StaysWith};
 
@@ -16,7 +17,7 @@ use crate::words::Words;
 use atomic_table::Seat;
 use gate_core::gate_word::{bit_of, bits_at, is_sealed, page};
 use gate_core::view::View;
-use spie_base::{PageNo, Sig};
+use spie_base::{Marks, PageNo, Sig};
 use std::marker::Brand;
 
 /// What a try to record answers.
@@ -55,17 +56,8 @@ impl Words {
         self.leave_as::<Brand>(seat, slot);
     }
 
-    // Sets the mark number `i`, which is `mark`. Where it `seeks`, it looks first whether the bit is set.
-    fn set(
-        &self,
-        seat: &mut Seat<(), View>,
-        slot: u8,
-        page: PageNo,
-        sig: &Sig,
-        i: u8,
-        mark: u32,
-        seeks: bool,
-    )
+    // Sets the mark number `i`, which is `mark`.
+    fn set(&self, seat: &mut Seat<(), View>, slot: u8, page: PageNo, sig: &Sig, i: u8, mark: u32)
         requires table { seat.old.table_id ≡ self.now.table.shared.table_id }
         requires inside { (seat.old.me.0.state ≡ Inside slot page sig.now i) × (i < self.now.shape.k)
             × (slot < SLOTS) × ¬ (seat.old.me.0.role ≡ Spent) }
@@ -74,47 +66,31 @@ impl Words {
     {
         let (_page, _i) = (page, i);
         let _sig = sig;
-        let word = bits_at(&self.shape, slot, mark / 64);
-        self.set_bit(seat, word, bit_of(mark), seeks);
+        self.set_as::<Brand>(seat, bits_at(&self.shape, slot, mark / 64), bit_of(mark));
     }
 
-    fn set_all(
-        &self,
-        seat: &mut Seat<(), View>,
-        kept: &mut Option<PageHashes>,
-        slot: u8,
-        page: PageNo,
-        sig: &Sig,
-        seeks: bool,
-    )
+    fn set_all(&self, seat: &mut Seat<(), View>, slot: u8, page: PageNo, sig: &Sig, marks: &Marks)
         requires table { seat.old.table_id ≡ self.now.table.shared.table_id }
         requires inside { (seat.old.me.0.state ≡ Inside slot page sig.now 0)
             × (slot < SLOTS) × ¬ (seat.old.me.0.role ≡ Spent) }
+        requires marks { AreMarks self.now.shape page.number sig.now marks.now }
         ensures { StaysWith seat.old seat.new (moved_to seat.old.me.0 (Inside slot page sig.now self.now.shape.k)) }
     {
-        let marks = marks_in(kept, &self.shape, page, sig);
         for i in 0..self.shape.k {
-            self.set(seat, slot, page, sig, i, marks.at[usize::from(i)], seeks);
+            self.set(seat, slot, page, sig, i, marks.at[usize::from(i)]);
         }
     }
 
     // Sets all marks of a record that is inside, and leaves.
-    fn finish(
-        &self,
-        seat: &mut Seat<(), View>,
-        kept: &mut Option<PageHashes>,
-        slot: u8,
-        page: PageNo,
-        sig: &Sig,
-        seeks: bool,
-    )
+    fn finish(&self, seat: &mut Seat<(), View>, slot: u8, page: PageNo, sig: &Sig, marks: &Marks)
         requires table { seat.old.table_id ≡ self.now.table.shared.table_id }
         requires inside { (seat.old.me.0.state ≡ Inside slot page sig.now 0)
             × (slot < SLOTS) × ¬ (seat.old.me.0.role ≡ Spent) }
+        requires marks { AreMarks self.now.shape page.number sig.now marks.now }
         ensures recorded { RecordedIn page sig.now seat.old seat.new }
         ensures met { IsMet self.now.shape seat.new.me.0 }
     {
-        self.set_all(seat, kept, slot, page, sig, seeks);
+        self.set_all(seat, slot, page, sig, marks);
         self.leave(seat, slot);
     }
 
@@ -137,29 +113,30 @@ impl Words {
             Tried::Sealed { gate }
         } else {
             let page = page(gate);
-            self.finish(seat, kept, slot, page, sig, false);
+            let marks = marks_in(kept, &self.shape, page, sig);
+            self.finish(seat, slot, page, sig, &marks);
             Tried::Entered(page)
         }
     }
 
-    // The same of the keeper, where the slot at which it pointed is open: then the gate is not sealed. It is meant for a keeper
-    // with no pass out, which has seen most of its marks before: it looks for each bit before it sets it.
+    // The same of the keeper, where the slot at which it pointed is open: then the gate is not sealed, and the page is known.
     pub(crate) fn record_in_open(
         &self,
         seat: &mut Seat<(), View>,
-        kept: &mut Option<PageHashes>,
+        page: PageNo,
         sig: &Sig,
-    ) -> PageNo
+        marks: &Marks,
+    )
         requires table { seat.old.table_id ≡ self.now.table.shared.table_id }
         requires keeper { (seat.old.me.0.state ≡ Idle)
             × (seat.old.me.0.role ≡ keeping) × ¬ (seat.old.me.0.role ≡ Spent) }
         requires open { (slot_at seat.old.me.0.duties seat.old.me.0.duties.pointed).phase ≡ Open }
-        ensures page { result.number ≡ (slot_at seat.old.me.0.duties seat.old.me.0.duties.pointed).page }
-        ensures recorded { RecordedIn result sig.now seat.old seat.new }
+        requires page { page.number ≡ (slot_at seat.old.me.0.duties seat.old.me.0.duties.pointed).page }
+        requires marks { AreMarks self.now.shape page.number sig.now marks.now }
+        ensures { RecordedIn page sig.now seat.old seat.new }
     {
         let slot = self.look(seat);
-        let page = page(self.enter(seat, slot, sig));
-        self.finish(seat, kept, slot, page, sig, true);
-        page
+        self.enter(seat, slot, sig);
+        self.finish(seat, slot, page, sig, marks);
     }
 }

@@ -2,7 +2,7 @@
 ghost use Rattle.std.specs.Prelude.{◌≡◌, ◌<◌};
 ghost use Rattle.gate_core.specs.Acts.{dealer_view};
 ghost use Rattle.page_gate.specs.Held.{dealt_held, gathered_held, WasAlone};
-ghost use Rattle.gate_core.specs.Invariant.{IsWhole};
+ghost use Rattle.gate_core.specs.Invariant.{IsWhole, Met};
 ghost use Rattle.page_gate.specs.Steps.{IsMet};
 ghost use Rattle.page_gate.specs.Tried.{StaysWith};
 ghost use Rattle.gate_core.specs.declared.limits.TheConstants.{MOST_PASSES};
@@ -17,22 +17,24 @@ use gate_core::view::View;
 use std::marker::Brand;
 
 impl Words {
-    fn attest_as<W: Told>(&self, seat: &mut Seat<(), View>)
+    fn attest_as<W: Told>(&self, seat: &mut Seat<(), View>, word: usize) -> u64
         requires told { W.shape ≡ self.now.table.shared.key }
         requires plane { seat.old.table_id ≡ self.now.table.shared.table_id }
+        requires word { word < self.now.table.shared.table_id.words }
         ensures same { StaysWith seat.old seat.new seat.old.me.0 }
-        ensures met { IsMet W.shape seat.new.me.0 }
+        ensures met { Met W.shape seat.new.me.0 word result }
     {
-        self.table.shared.load::<Attests<W>>(seat, 0);
+        self.table.shared.load::<Attests<W>>(seat, word)
     }
 
-    // Nothing changes.
-    pub(crate) fn attest(&self, seat: &mut Seat<(), View>)
+    // Loads a word. Nothing changes.
+    pub(crate) fn attest(&self, seat: &mut Seat<(), View>, word: usize) -> u64
         requires plane { seat.old.table_id ≡ self.now.table.shared.table_id }
+        requires word { word < self.now.table.shared.table_id.words }
         ensures same { StaysWith seat.old seat.new seat.old.me.0 }
-        ensures met { IsMet self.now.shape seat.new.me.0 }
+        ensures met { Met self.now.shape seat.new.me.0 word result }
     {
-        self.attest_as::<Brand>(seat)
+        self.attest_as::<Brand>(seat, word)
     }
 }
 
@@ -83,6 +85,6 @@ impl Plane {
         ensures alone { WasAlone self.now.shape keeper.new.view }
         ensures met { IsMet self.now.shape keeper.new.view }
     {
-        self.words.attest(&mut keeper.seat)
+        self.words.attest(&mut keeper.seat, 0);
     }
 }

@@ -4,10 +4,12 @@ ghost use Rattle.page_gate.specs.Held.{recorded_held};
 ghost use Rattle.page_gate.specs.Slots.{HasOpen, open_page};
 ghost use Rattle.page_gate.specs.Tried.{PassTells};
 
+use crate::hashes::marks_in;
 use crate::keeper::Keeper;
 use crate::pass::Pass;
 use crate::plane::Plane;
 use crate::record::Tried;
+use gate_core::open_slot;
 use spie_base::{Entry, PageNo, Sig};
 
 impl Plane {
@@ -30,8 +32,10 @@ impl Plane {
         tried
     }
 
-    /// The keeper's own record, in the open page, where no pass is out. Takes no memory. Costs what `try_record` does, but for the
-    /// marks: each costs a load, and a fetch-or only where its bit is not set yet.
+    /// The keeper's own record, in the open page, where no pass is out. Takes no memory. Costs k positions and k + 1 loads
+    /// where all marks are set already, as they are of a signature that the page has; else k positions, at most k loads up
+    /// to the first mark that is not set, and then a load, a fetch-add, k fetch-ors and a fetch-sub. 8·k words of the
+    /// generator more, where the keeper's last record or probe was in another page.
     pub fn record_alone(&self, keeper: &mut Keeper, sig: &Sig) -> PageNo
         requires plane { keeper.old.table ≡ self.now.table }
         requires alone { keeper.old.view.duties.out ≡ 0 }
@@ -39,7 +43,13 @@ impl Plane {
         ensures page { result.number ≡ open_page keeper.old.view.duties }
         ensures recorded { keeper.new ≡ recorded_held keeper.old result sig.now }
     {
+        let slot = open_slot(&keeper.slots);
+        let page = PageNo {
+            number: keeper.slots[usize::from(slot)].page,
+        };
+        let marks = marks_in(&mut keeper.hashes, &self.words.shape, page, sig);
         self.words
-            .record_in_open(&mut keeper.seat, &mut keeper.hashes, sig)
+            .record_or_repeat(&mut keeper.seat, slot, page, sig, &marks);
+        page
     }
 }

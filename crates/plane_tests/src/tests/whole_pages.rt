@@ -5,7 +5,7 @@ use crate::tests::pieces::{P0, P1, family, mark, settled, sig_of, turned};
 use bloom_page::Page;
 use gate_core::SlotPhase;
 use page_gate::{Keeper, Pass, Plane, Settled, Tried};
-use spie_base::{NoMemory, PageShape, RouterId};
+use spie_base::{NoMemory, PageShape, RouterId, Sig};
 use std::alloc::Global;
 use std::test::Fail;
 
@@ -30,6 +30,31 @@ fn entered(plane: &Plane, pass: &mut Pass, worker: u8) -> u32
         }
     }
     entered
+}
+
+// Whether the keeper's own record is in page 0.
+fn recorded_one(plane: &Plane, keeper: &mut Keeper, sig: &Sig) -> bool
+    requires { keeper.old.table ≡ plane.now.table }
+    ensures { keeper.new.table ≡ plane.now.table }
+{
+    if !keeper.has_open() || keeper.out() != 0 {
+        return false;
+    }
+    plane.record_alone(keeper, sig) == P0
+}
+
+// How many of the keeper's own records are in page 0.
+fn recorded(plane: &Plane, keeper: &mut Keeper) -> u32
+    requires { keeper.old.table ≡ plane.now.table }
+    ensures { keeper.new.table ≡ plane.now.table }
+{
+    let mut recorded = 0u32;
+    'records: for record in 0..RECORDS {
+        if recorded_one(plane, keeper, &sig_of(1, record)) {
+            recorded = recorded.wrapping_add(1);
+        }
+    }
+    recorded
 }
 
 // The bits of the open page 0, read where no pass is out.
@@ -68,6 +93,39 @@ fn bits_after_a_gather(rt: HostRuntime) -> Result<(), Fail> {
         mark(&mut words, &family, &sig_of(1, record));
         mark(&mut words, &family, &sig_of(2, record));
     }
+    let Some(page) = read(alloc, &plane, &mut keeper)? else {
+        return Err(Fail::from("page 0 is not open"));
+    };
+    assert_eq!(rt; page.words(), words.as_slice());
+    assert_eq!(rt; turned(&plane, &mut keeper), Some(P1));
+    let Some(oldest) = keeper.oldest() else {
+        return Err(Fail::from("no page is closed"));
+    };
+    assert_eq!(rt; oldest, P0);
+    let Settled::Quiet = settled(&plane, &mut keeper, oldest) else {
+        return Err(Fail::from("page 0 is not quiet"));
+    };
+    let page = plane.collect(alloc, &mut keeper, oldest)?;
+    assert_eq!(rt; page.words(), words.as_slice());
+    Ok(())
+}
+
+// The second time each mark is set already. The bits stay as they were, and nobody is inside afterwards.
+#[test]
+fn records_of_the_keeper_again(rt: HostRuntime) -> Result<(), Fail> {
+    let alloc = rt.alloc();
+    let (plane, mut keeper) = Plane::open(alloc, SHAPE)?;
+    let family = family(&SHAPE, P0);
+    let mut words = [0u64; 4];
+    for record in 0..RECORDS {
+        mark(&mut words, &family, &sig_of(1, record));
+    }
+    assert_eq!(rt; recorded(&plane, &mut keeper), RECORDS);
+    let Some(page) = read(alloc, &plane, &mut keeper)? else {
+        return Err(Fail::from("page 0 is not open"));
+    };
+    assert_eq!(rt; page.words(), words.as_slice());
+    assert_eq!(rt; recorded(&plane, &mut keeper), RECORDS);
     let Some(page) = read(alloc, &plane, &mut keeper)? else {
         return Err(Fail::from("page 0 is not open"));
     };
