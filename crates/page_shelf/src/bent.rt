@@ -26,12 +26,16 @@ pub struct BentShelf {
 
 impl BentShelf {
     /// Flips a bit in what the get of number `bent` hands out. Gets are counted from 0, those that fail too.
-    pub fn new(inner: MemShelf, bent: u64) -> BentShelf {
+    pub fn new(inner: MemShelf, bent: u64) -> BentShelf
+        ensures faults { ⟦<BentShelf as Shelf>⟧.faults result ≡ ⟦<MemShelf as Shelf>⟧.faults inner }
+    {
         BentShelf::bending(inner, bent, Bend::Flip)
     }
 
     /// Bends the get of number `bent`. Gets are counted from 0, those that fail too.
-    pub fn bending(inner: MemShelf, bent: u64, bend: Bend) -> BentShelf {
+    pub fn bending(inner: MemShelf, bent: u64, bend: Bend) -> BentShelf
+        ensures faults { ⟦<BentShelf as Shelf>⟧.faults result ≡ ⟦<MemShelf as Shelf>⟧.faults inner }
+    {
         BentShelf {
             inner,
             bent,
