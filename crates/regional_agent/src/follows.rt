@@ -1,8 +1,8 @@
 // Searches that go on in one region.
 ghost use Rattle.std.specs.Prelude.{◌≡◌, [], length, OnOk};
 ghost use Rattle.regional_agent.specs.Answers.{AreHome};
-ghost use Rattle.reverse_flood.specs.Flood.{net_of, everywhere};
-ghost use Rattle.reverse_flood.specs.Leads.{nodes_of, AreLeads, GoesOn, KeepsNames};
+ghost use Rattle.reverse_flood.specs.Flood.{net_of, everywhere, in_region};
+ghost use Rattle.reverse_flood.specs.Leads.{nodes_of, AreLeads, GoesOn, KeepsNames, LeadsOut, NamesWithin};
 ghost use Rattle.reverse_flood.specs.Search.{IsFine};
 
 use reverse_flood::{Leads, Search, follow_in};
@@ -30,6 +30,10 @@ pub fn follow_region<S: Sighting>(
     ensures kept { OnOk result (KeepsNames search.old search.new) }
     ensures home { OnOk result (leads.new.home.items ≡ []) }
     ensures away { OnOk result (AreLeads topology.now search.new leads.new.away.items) }
+    ensures elsewhere { OnOk result
+        (LeadsOut (in_region topology.now region) leads.old.away.items leads.new.away.items) }
+    ensures within { OnOk result
+        (NamesWithin (in_region topology.now region) search.old search.new leads.new.away.items) }
     ensures under_way { OnOk result
         (GoesOn (net_of S.shown sights.now topology.now) everywhere search.old search.new leads.old leads.new) }
 {

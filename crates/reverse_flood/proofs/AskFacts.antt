@@ -15,10 +15,10 @@ use Rattle.reverse_flood.specs.declared.graphs.Node.{Node}
 use Rattle.reverse_flood.specs.declared.cells.Search.{Search}
 use Rattle.reverse_flood.specs.declared.leads.Lead.{Lead}
 use Rattle.reverse_flood.specs.declared.leads.Leads.{Leads}
-use Rattle.reverse_flood.specs.Flood.{Net, IsHit}
+use Rattle.reverse_flood.specs.Flood.{Net, IsHit, is_within}
 use Rattle.reverse_flood.specs.Search.{is_named, is_hit_cell, IsSettled, IsUnderWay}
-use Rattle.reverse_flood.specs.Leads.{AreLeads, Asks, IsAmong, KeepsNames, Names, SameTold, Settles, added_by, nodes_of, pairs_with}
-use Rattle.reverse_flood.proofs.LeadFacts.{adds_none, lead_kept, names_keep, same_named, steps_has}
+use Rattle.reverse_flood.specs.Leads.{AreLeads, Asks, IsAmong, KeepsNames, Names, NamesWithin, SameTold, Settles, added_by, nodes_of, pairs_with}
+use Rattle.reverse_flood.proofs.LeadFacts.{adds_none, lead_kept, names_keep, none_on, same_named, steps_has}
 use Rattle.reverse_flood.proofs.Worklists.{node_from_asked}
 
 -- a settled pair and the others: what was named stays named
@@ -69,6 +69,8 @@ asks_hit lane net layout inside node near sigs old mid new before after few was 
           (settles.others n n_small);
       leads = names.leads;
       stays = names.stays;
+      at_home = names.at_home;
+      elsewhere = names.elsewhere;
       only = λ n n_small h. ⊎_elim
           (λ o. inl o)
           (λ x.
@@ -94,6 +96,8 @@ asks_unseen lane net layout inside node old new leads was unseen settles = recor
   kept = λ n small _. settles.others n small;
   leads = adds_none leads;
   stays = λ e. refl;
+  at_home = none_on true lane layout;
+  elsewhere = none_on false lane layout;
   only = λ n small h. inl (settles_only node false None old new settles was n small h);
   each = λ l h. absurd (has_none l h);
 }
@@ -202,6 +206,28 @@ leads_more lane net layout inside node old new before after few asks home away =
       (λ l h. ⊎_elim (λ o. lead_kept layout old new l few keeps (home l o)) (λ x. asks.each l (Contains-append_left a.home_added a.away_added l x)) (Contains-append_cases before.home.items a.home_added l (subst (Has l) a.home h))),
       (λ l h. ⊎_elim (λ o. lead_kept layout old new l few keeps (away l o)) (λ x. asks.each l (Contains-append_right a.home_added a.away_added l x)) (Contains-append_cases before.away.items a.away_added l (subst (Has l) a.away h))),
     )
+
+-- what is named is within, or away
+pub names_within : (lane : Option ℕ) (net : Net) (layout : Layout) (inside : ℕ → Bool) (node : Node) (start old new : Search) (before after : Leads) → Asks lane net layout inside node old new before after → NamesWithin (is_within layout lane) start old before.away.items → NamesWithin (is_within layout lane) start new after.away.items
+names_within lane net layout inside node start old new before after asks so_far = λ n small h.
+    let a = asks.leads in
+    ⊎_elim
+    (λ o. ⊎_elim
+    (λ was. inl was)
+    (λ rest. inr (⊎_elim
+    (λ within. inl within)
+    (λ away. let Has : List Lead → Type 0 = λ ls. Contains ls away.lead in inr (record { lead = away.lead; has = subst Has (sym a.away) (Contains-append_left before.away.items a.away_added away.lead away.has); is = away.is }))
+    rest))
+    (so_far n small o))
+    (λ x.
+    let among = x.3 in
+    let Has : List Lead → Type 0 = λ ls. Contains ls among.lead in
+    let Within : Node → Type 0 = λ m. is_within layout lane m.router.number ≡ true in
+    inr (⊎_elim
+    (λ home. inl (subst Within among.is (asks.at_home among.lead home)))
+    (λ away. inr (record { lead = among.lead; has = subst Has (sym a.away) (Contains-append_right before.away.items a.away_added among.lead away); is = among.is }))
+    (Contains-append_cases a.home_added a.away_added among.lead among.has)))
+    (asks.only n small h)
 
 pub keeps_join : (a b c : Search) → KeepsNames a b → KeepsNames b c → KeepsNames a c
 keeps_join a b c first second = record {

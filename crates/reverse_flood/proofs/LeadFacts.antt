@@ -1,5 +1,6 @@
 -- Pairs are named one after another.
 use Rattle.std.proofs.Common.{◌≡◌, ◌∙◌, ℕ, ◌+◌, ◌<◌, ◌≤◌, ◌⊎◌, inl, inr, ⊎_elim, Bool, true, false, cond, List, [], ◌∷◌, ◌++◌, length, take, get_or, Option, Some, None, refl, sym, subst, ap, append_assoc, append-nil, arith, ◌↔◌}
+use Rattle.std.proofs.lemmas.Bool.{false≢true}
 use Rattle.std.proofs.lemmas.List.{take_more, map-append}
 use Rattle.std.proofs.lemmas.List.Elements.{filter_more, Contains-append_left, Contains-append_right, Contains-append_cases}
 use Rattle.std.specs.BTreeMap.{get}
@@ -17,7 +18,8 @@ use Rattle.reverse_flood.specs.declared.leads.Lead.{Lead}
 use Rattle.reverse_flood.specs.declared.leads.Leads.{Leads}
 use Rattle.reverse_flood.specs.Rows.{KeepsRows}
 use Rattle.reverse_flood.specs.Search.{cell_at, is_named, is_taken, origins_by, rows_in, IsFine}
-use Rattle.reverse_flood.specs.Leads.{AddsLeads, IsLead, KeepsNames, Names, PushesLead, SameTold, pair_with, pairs_with}
+use Rattle.reverse_flood.specs.Flood.{is_within}
+use Rattle.reverse_flood.specs.Leads.{AddsLeads, AreOn, IsLead, KeepsNames, Names, PushesLead, SameTold, pair_with, pairs_with}
 
 -- ---- leads
 
@@ -32,11 +34,30 @@ adds_join a b c first second = record {
   away = second.away ∙ ap (λ (l : List Lead). l ++ second.away_added) first.away ∙ append_assoc a.away.items first.away_added second.away_added;
 }
 
-pub pushes_home : (lane : Option ℕ) (lead : Lead) (before after : Leads) → after.home.items ≡ before.home.items ++ lead ∷ [] → after.away.items ≡ before.away.items → PushesLead lane lead before after
-pushes_home lane lead before after home away = record { adds = record { home_added = lead ∷ []; away_added = []; home = home; away = away ∙ sym (append-nil before.away.items) }; is = refl; stays = λ e. refl }
+-- no leads are on either side
+pub none_on : (within : Bool) (lane : Option ℕ) (layout : Layout) → AreOn within lane layout []
+none_on within lane layout = λ l h. absurd (has_none l h)
 
-pub pushes_away : (lane : Option ℕ) (lead : Lead) (before after : Leads) → (lane ≡ None → ⊥) → after.away.items ≡ before.away.items ++ lead ∷ [] → after.home.items ≡ before.home.items → PushesLead lane lead before after
-pushes_away lane lead before after some away home = record { adds = record { home_added = []; away_added = lead ∷ []; home = home ∙ sym (append-nil before.home.items); away = away }; is = refl; stays = λ e. absurd (some e) }
+one_on : (within : Bool) (lane : Option ℕ) (layout : Layout) (lead : Lead) → is_within layout lane lead.node.router.number ≡ within → AreOn within lane layout (lead ∷ [])
+one_on within lane layout lead is = λ l h. let Is : Lead → Type 0 = λ x. is_within layout lane x.node.router.number ≡ within in subst Is (has_one lead l h) is
+
+pub pushes_home : (lane : Option ℕ) (layout : Layout) (lead : Lead) (before after : Leads) → is_within layout lane lead.node.router.number ≡ true → after.home.items ≡ before.home.items ++ lead ∷ [] → after.away.items ≡ before.away.items → PushesLead lane layout lead before after
+pushes_home lane layout lead before after inside home away = record {
+  adds = record { home_added = lead ∷ []; away_added = []; home = home; away = away ∙ sym (append-nil before.away.items) };
+  is = refl;
+  stays = λ e. refl;
+  at_home = one_on true lane layout lead inside;
+  elsewhere = none_on false lane layout;
+}
+
+pub pushes_away : (lane : Option ℕ) (layout : Layout) (lead : Lead) (before after : Leads) → is_within layout lane lead.node.router.number ≡ false → after.away.items ≡ before.away.items ++ lead ∷ [] → after.home.items ≡ before.home.items → PushesLead lane layout lead before after
+pushes_away lane layout lead before after outside away home = record {
+  adds = record { home_added = []; away_added = lead ∷ []; home = home ∙ sym (append-nil before.home.items); away = away };
+  is = refl;
+  stays = λ none. let P : Option ℕ → Type 0 = λ o. is_within layout o lead.node.router.number ≡ false in absurd (false≢true (sym (subst P none outside)));
+  at_home = none_on true lane layout;
+  elsewhere = one_on false lane layout lead outside;
+}
 
 -- what is in both parts
 pub four_cases : (a b c d : List Lead) (l : Lead) → Contains ((a ++ c) ++ (b ++ d)) l → Contains (a ++ b) l ⊎ Contains (c ++ d) l
@@ -86,6 +107,8 @@ names_none lane layout s l fine = record {
   all = λ n few h. absurd (has_none n h);
   leads = adds_none l;
   stays = λ e. refl;
+  at_home = none_on true lane layout;
+  elsewhere = none_on false lane layout;
   only = λ n few h. inl h;
   each = λ x h. absurd (has_none x h);
 }
@@ -99,6 +122,8 @@ names_row lane layout old new l fine same changed kept = record {
   all = λ n few h. absurd (has_none n h);
   leads = adds_none l;
   stays = λ e. refl;
+  at_home = none_on true lane layout;
+  elsewhere = none_on false lane layout;
   only = λ n few h. inl (ap is_taken (sym (same n few)) ∙ h);
   each = λ x h. absurd (has_none x h);
 }
@@ -106,7 +131,7 @@ names_row lane layout old new l fine same changed kept = record {
 -- one pair, that was not named and is a lead now
 pub names_new : (lane : Option ℕ) (layout : Layout) (node : Node) (lead : Lead) (old new : Search) (before after : Leads) → IsFine new → new.rows ≡ old.rows → new.changed ≡ old.changed → is_named new node ≡ true
     → ((n : Node) → n.router.number < ROUTERS_MOST → is_named old n ≡ true → cell_at new n ≡ cell_at old n) → ((n : Node) → n.router.number < ROUTERS_MOST → is_named new n ≡ true → (is_named old n ≡ true) ⊎ (node ≡ n))
-    → lead.node ≡ node → IsLead layout new lead → PushesLead lane lead before after → Names lane layout (node ∷ []) old new before after
+    → lead.node ≡ node → IsLead layout new lead → PushesLead lane layout lead before after → Names lane layout (node ∷ []) old new before after
 names_new lane layout node lead old new before after fine rows changed named kept only is_node is pushes =
     let Has : Lead → List Lead → Type 0 = λ l ls. Contains ls l in
     let Named : Node → Type 0 = λ n. is_named new n ≡ true in
@@ -117,6 +142,8 @@ names_new lane layout node lead old new before after fine rows changed named kep
       all = λ n few h. subst Named (has_one node n h) named;
       leads = pushes.adds;
       stays = pushes.stays;
+      at_home = pushes.at_home;
+      elsewhere = pushes.elsewhere;
       only = λ n few h. ⊎_elim
           (λ o. inl o)
           (λ (e : node ≡ n).
@@ -139,6 +166,8 @@ names_old lane layout node old new l fine rows changed was named kept only =
       all = λ n few h. subst Named (has_one node n h) named;
       leads = adds_none l;
       stays = λ e. refl;
+      at_home = none_on true lane layout;
+      elsewhere = none_on false lane layout;
       only = λ n few h. inl (⊎_elim (λ o. o) (λ (e : node ≡ n). subst Was e was) (only n few h));
       each = λ x h. absurd (has_none x h);
     }
@@ -162,6 +191,8 @@ names_join lane layout ns ms a b c la lb lc few first second =
       all = λ n small h. ⊎_elim (λ x. later n small (first.all n small x)) (λ y. second.all n small y) (Contains-append_cases ns ms n h);
       leads = adds_join la lb lc first.leads second.leads;
       stays = λ e. ap (λ (w : List Lead). w ++ second.leads.away_added) (first.stays e) ∙ second.stays e;
+      at_home = λ l h. ⊎_elim (λ x. first.at_home l x) (λ y. second.at_home l y) (Contains-append_cases h1 h2 l h);
+      elsewhere = λ l h. ⊎_elim (λ x. first.elsewhere l x) (λ y. second.elsewhere l y) (Contains-append_cases w1 w2 l h);
       only = λ n small h. ⊎_elim
           (λ named. ⊎_elim
           (λ o. inl o)

@@ -1,5 +1,5 @@
 -- The pairs that are still to be asked, and how a search goes on by asking one.
-use Rattle.std.specs.Prelude.{◌≡◌, ◌⊎◌, ◌<◌, ℕ, Bool, true, Option, Some, None, List, [], ◌∷◌, ◌++◌, length, map}
+use Rattle.std.specs.Prelude.{◌≡◌, ◌⊎◌, ◌<◌, ℕ, Bool, true, false, Option, Some, None, List, [], ◌∷◌, ◌++◌, length, map}
 use Rattle.std.specs.List.{Contains}
 use Rattle.spie_base.specs.declared.Sig.{Sig}
 use Rattle.spie_base.specs.declared.RouterId.{RouterId}
@@ -9,7 +9,7 @@ use Rattle.reverse_flood.specs.declared.graphs.Node.{Node}
 use Rattle.reverse_flood.specs.declared.cells.Search.{Search}
 use Rattle.reverse_flood.specs.declared.leads.Lead.{Lead}
 use Rattle.reverse_flood.specs.declared.leads.Leads.{Leads}
-use Rattle.reverse_flood.specs.Flood.{Net, IsHit, IsInside, IsStep}
+use Rattle.reverse_flood.specs.Flood.{Net, IsHit, IsInside, IsStep, is_within}
 use Rattle.reverse_flood.specs.Rows.{KeepsRows}
 use Rattle.reverse_flood.specs.Search.{rows_in, cell_at, is_named, is_known, found_in, IsFine, IsSettled, IsUnderWay}
 
@@ -49,11 +49,17 @@ pub record AddsLeads (before after : Leads) : Type 0 where
   pub home : after.home.items ≡ before.home.items ++ home_added
   pub away : after.away.items ≡ before.away.items ++ away_added
 
+-- leads of routers that are within a lane, or leads of routers that are not
+abbrev pub AreOn : (within : Bool) → (lane : Option ℕ) → Layout → List Lead → Type 0
+AreOn within lane layout leads = (l : Lead) → Contains leads l → is_within layout lane l.node.router.number ≡ within
+
 -- one lead stands behind the others, at home or away
-pub record PushesLead (lane : Option ℕ) (lead : Lead) (before after : Leads) : Type 0 where
+pub record PushesLead (lane : Option ℕ) (layout : Layout) (lead : Lead) (before after : Leads) : Type 0 where
   pub adds : AddsLeads before after
   pub is : adds.home_added ++ adds.away_added ≡ lead ∷ []
   pub stays : lane ≡ None → adds.away_added ≡ []
+  pub at_home : AreOn true lane layout adds.home_added
+  pub elsewhere : AreOn false lane layout adds.away_added
 
 abbrev pub added_by : {before after : Leads} → AddsLeads before after → List Lead
 added_by a = a.home_added ++ a.away_added
@@ -66,6 +72,8 @@ pub record Names (lane : Option ℕ) (layout : Layout) (nodes : List Node) (old 
   pub all : (n : Node) → n.router.number < ROUTERS_MOST → Contains nodes n → is_named new n ≡ true
   pub leads : AddsLeads before after
   pub stays : lane ≡ None → leads.away_added ≡ []
+  pub at_home : AreOn true lane layout leads.home_added
+  pub elsewhere : AreOn false lane layout leads.away_added
   pub only : (n : Node) → n.router.number < ROUTERS_MOST → is_named new n ≡ true → (is_named old n ≡ true) ⊎ (Contains nodes n × IsAmong (added_by leads) n)
   pub each : AreLeads layout new (added_by leads)
 
@@ -87,6 +95,8 @@ pub record Asks (lane : Option ℕ) (net : Net) (layout : Layout) (inside : ℕ 
   pub kept : (n : Node) → n.router.number < ROUTERS_MOST → is_named old n ≡ true → (node ≡ n) ⊎ SameTold n old new
   pub leads : AddsLeads before after
   pub stays : lane ≡ None → leads.away_added ≡ []
+  pub at_home : AreOn true lane layout leads.home_added
+  pub elsewhere : AreOn false lane layout leads.away_added
   pub only : (n : Node) → n.router.number < ROUTERS_MOST → is_named new n ≡ true → (is_named old n ≡ true) ⊎ (IsHit net node × IsStep net node n × IsInside inside n × IsAmong (added_by leads) n)
   pub each : AreLeads layout new (added_by leads)
 
@@ -102,6 +112,16 @@ pairs_with routers sig = map (pair_with sig) routers
 -- a search that began with some entries, all of them at home
 abbrev pub HasBegun : (entries : List Node) → (home : List Lead) → Search → Type 0
 HasBegun entries home s = (net : Net) (inside : ℕ → Bool) → IsUnderWay net inside entries s (nodes_of home)
+
+-- each lead that is away was so before, or its router is not inside
+abbrev pub LeadsOut : (inside : ℕ → Bool) → (before after : List Lead) → Type 0
+LeadsOut inside before after = (l : Lead) → Contains after l → Contains before l ⊎ (inside l.node.router.number ≡ false)
+
+-- each pair that is named was so before, or is inside, or is one of the leads that are away
+abbrev pub NamesWithin : (inside : ℕ → Bool) → (old new : Search) → (away : List Lead) → Type 0
+NamesWithin inside old new away =
+    (n : Node) → n.router.number < ROUTERS_MOST → is_named new n ≡ true
+    → (is_named old n ≡ true) ⊎ ((inside n.router.number ≡ true) ⊎ IsAmong away n)
 
 -- a search goes on until no lead is at home: whatever entries it began with and what else waits, it is under way still
 abbrev pub GoesOn : Net → (inside : ℕ → Bool) → (old new : Search) → (before after : Leads) → Type 0

@@ -1,7 +1,7 @@
 // Which pairs are asked, and which of them are hit.
 ghost use Rattle.std.specs.Prelude.{◌≡◌, ◌<◌, ◌≤◌, [], length, slice_index_or, None, OnOk};
 ghost use Rattle.reverse_flood.specs.Flood.{net_of, is_within};
-ghost use Rattle.reverse_flood.specs.Leads.{AreLeads, Asks, GoesOn, IsLead, KeepsNames};
+ghost use Rattle.reverse_flood.specs.Leads.{AreLeads, Asks, GoesOn, IsLead, KeepsNames, LeadsOut, NamesWithin};
 ghost use Rattle.reverse_flood.specs.Search.{IsFine};
 
 use crate::cells::{Search, note_found, note_unseen};
@@ -68,6 +68,9 @@ pub(crate) fn follow<S: Sighting>(
     ensures home { OnOk result (leads.new.home.items ≡ []) }
     ensures away { OnOk result (AreLeads topology.now search.new leads.new.away.items) }
     ensures stays { OnOk result (lane ≡ None → leads.new.away.items ≡ leads.old.away.items) }
+    ensures elsewhere { OnOk result (LeadsOut (is_within topology.now lane) leads.old.away.items leads.new.away.items) }
+    ensures within { OnOk result
+        (NamesWithin (is_within topology.now lane) search.old search.new leads.new.away.items) }
     ensures under_way { OnOk result (GoesOn (net_of S.shown sights.now topology.now)
         (is_within topology.now bound) search.old search.new leads.old leads.new) }
 {

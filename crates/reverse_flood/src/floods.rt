@@ -1,8 +1,8 @@
 // Floods.
 ghost use Rattle.std.specs.Prelude.{◌≡◌, ◌<◌, [], length, IfOk, OnOk};
 ghost use Rattle.std.specs.List.{Contains};
-ghost use Rattle.reverse_flood.specs.Flood.{net_of, everywhere, is_within, IsFlood, IsPart};
-ghost use Rattle.reverse_flood.specs.Leads.{AreLeads, GoesOn, HasBegun, KeepsNames};
+ghost use Rattle.reverse_flood.specs.Flood.{net_of, everywhere, in_region, is_within, IsFlood, IsPart};
+ghost use Rattle.reverse_flood.specs.Leads.{AreLeads, GoesOn, HasBegun, KeepsNames, LeadsOut, NamesWithin};
 ghost use Rattle.reverse_flood.specs.Search.{IsFine, IsGraphOf};
 ghost use Rattle.reverse_flood.specs.declared.graphs.Node.{Node};
 
@@ -55,6 +55,10 @@ pub fn follow_in<S: Sighting>(
     ensures kept { OnOk result (KeepsNames search.old search.new) }
     ensures home { OnOk result (leads.new.home.items ≡ []) }
     ensures away { OnOk result (AreLeads topology.now search.new leads.new.away.items) }
+    ensures elsewhere { OnOk result
+        (LeadsOut (in_region topology.now region) leads.old.away.items leads.new.away.items) }
+    ensures within { OnOk result
+        (NamesWithin (in_region topology.now region) search.old search.new leads.new.away.items) }
     ensures under_way { OnOk result
         (GoesOn (net_of S.shown sights.now topology.now) everywhere search.old search.new leads.old leads.new) }
 {

@@ -51,7 +51,7 @@ fn push_lead(
     lead: Lead,
 ) -> Result<(), NoMemory>
     requires { lead.node.router.number < length topology.now.names }
-    ensures { OnOk result (PushesLead lane lead leads.old leads.new) }
+    ensures { OnOk result (PushesLead lane topology.now lead leads.old leads.new) }
 {
     if is_inside(topology, lane, lead.node.router) {
         leads.home.push(lead)?;

@@ -1,11 +1,13 @@
-use Rattle.std.proofs.Common.{◌≡◌, ◌∙◌, ◌<◌, ◌≤◌, ◌++◌, List, length, refl, sym, subst, ap, append-nil, arith}
+use Rattle.std.proofs.Common.{◌≡◌, ◌∙◌, ◌<◌, ◌≤◌, ◌++◌, inl, inr, ⊎_elim, List, length, refl, sym, subst, ap, append-nil, arith}
 use Rattle.std.proofs.lemmas.List.{drop_all, length-append}
+use Rattle.std.proofs.lemmas.List.Elements.{Contains-append_cases}
+use Rattle.std.specs.List.{Contains}
 use Rattle.topology.specs.declared.limits.TheConstants.{ROUTERS_MOST}
 use Rattle.reverse_flood.specs.declared.leads.Lead.{Lead}
 use Rattle.reverse_flood.specs.Flood.{net_of, is_within}
 use Rattle.reverse_flood.specs.Leads.{nodes_of}
 use Rattle.reverse_flood.specs.Search.{IsUnderWay}
-use Rattle.reverse_flood.proofs.AskFacts.{added_waiting, asks_keep, keeps_join, leads_more, still_waiting, under_way_next}
+use Rattle.reverse_flood.proofs.AskFacts.{added_waiting, asks_keep, keeps_join, leads_more, names_within, still_waiting, under_way_next}
 use Rattle.reverse_flood.proofs.asks.follow.Goals as goal
 
 pub loop-next-init : goal.loop-next-init
@@ -16,6 +18,8 @@ loop-next-init g c = record {
   home = c.requires.home;
   away = c.requires.away;
   stays = λ e. refl;
+  elsewhere = λ l h. inl h;
+  within = λ n small h. inl h;
   bound = omega arith;
   under_way = λ entries rest h. h;
 }
@@ -50,6 +54,13 @@ loop-next-preserved g c =
       home = more.0;
       away = more.1;
       stays = λ e. asks.leads.away ∙ ap (λ (l : List Lead). before.away.items ++ l) (asks.stays e) ∙ append-nil before.away.items ∙ c.loop-next.invariant.stays e;
+      elsewhere = λ l h.
+          let Has : List Lead → Type 0 = λ ls. Contains ls l in
+          ⊎_elim
+          (λ o. c.loop-next.invariant.elsewhere l o)
+          (λ x. inr (asks.elsewhere l x))
+          (Contains-append_cases before.away.items asks.leads.away_added l (subst Has asks.leads.away h));
+      within = names_within c.args.lane net t inside lead.node c.args.search.now old new before after asks c.loop-next.invariant.within;
       bound = omega (arith, lt, longer);
       under_way = λ entries rest h.
           under_way_next c.args.lane net t inside entries lead.node old new before after _ _ few (λ a b joined. (c.topology_is_sound.ensures.ends a b joined).1) is.named small asks
