@@ -67,16 +67,24 @@ pub(crate) enum Unread {
     Refused(Reply),
 }
 
-// The trace that a text is. Lets go of the text.
-fn trace_of(alloc: Global, text: Vec<u8>) -> Result<Trace, Unread>
-    ensures trace { IfOk result (λ trace. IsTrace text.items trace × IsSound trace) }
+// A trace, and the memory of the text that it was read from.
+#[derive(Drop)]
+struct Read {
+    trace: Trace,
+    room: Vec<u8>,
+}
+
+// The trace that a text is. Lets go of a text that is none.
+fn trace_of(alloc: Global, text: Vec<u8>) -> Result<Read, Unread>
+    ensures trace { IfOk result (λ read. IsTrace text.items read.trace × IsSound read.trace) }
     ensures refused { IfErr result (λ why. IsUnread text.items why) }
 {
-    let read = read_trace(alloc, &text);
-    drop(text);
-    match read {
-        Ok(trace) => Ok(trace),
-        Err(ReadTraceRefused::Refused(fault)) => Err(refusal_of(alloc, &fault)),
+    match read_trace(alloc, &text) {
+        Ok(trace) => Ok(Read { trace, room: text }),
+        Err(ReadTraceRefused::Refused(fault)) => {
+            drop(text);
+            Err(refusal_of(alloc, &fault))
+        }
         Err(ReadTraceRefused::NoMemory) => Err(Unread::NoMemory),
     }
 }
@@ -106,16 +114,19 @@ fn replayed_alone<H: Shelf>(
     ensures unopened { OnErr result (yard.new ≡ yard.old) }
 {
     match trace_of(alloc, text) {
-        Ok(trace) => Ok(Reply {
+        Ok(Read { trace, room }) => Ok(Reply {
             status: Status::Done,
-            text: replay_alone(alloc, &trace, shelf, yard)?.report.into_vec(),
+            text: replay_alone(alloc, &trace, shelf, yard, room)?
+                .report
+                .into_vec(),
         }),
         Err(Unread::Refused(reply)) => Ok(reply),
         Err(Unread::NoMemory) => Err(NoMemory),
     }
 }
 
-/// What a command that waits for nobody makes of an input, whose bytes are let go of once they are read.
+/// What a command that waits for nobody makes of an input, whose bytes are let go of once they are read. A report is written
+/// into their memory.
 pub fn reply_alone<H: Shelf>(
     alloc: Global,
     command: Command,
@@ -136,7 +147,8 @@ pub fn reply_alone<H: Shelf>(
     }
 }
 
-/// What a replay by workers beside an operator makes of an input, whose bytes are let go of once they are read.
+/// What a replay by workers beside an operator makes of an input, whose bytes are let go of once they are read. The report is
+/// written into their memory.
 pub fn reply_beside<R: Threads + Wait + Sync, H: Shelf + Send>(
     rt: &R,
     alloc: Global,
@@ -153,9 +165,9 @@ pub fn reply_beside<R: Threads + Wait + Sync, H: Shelf + Send>(
     ensures unopened { OnErr result (yard.new ≡ yard.old) }
 {
     match trace_of(alloc, text) {
-        Ok(trace) => Ok(Reply {
+        Ok(Read { trace, room }) => Ok(Reply {
             status: Status::Done,
-            text: replay(rt, alloc, &trace, shelf, yard, workers, &Free)?
+            text: replay(rt, alloc, &trace, shelf, yard, workers, &Free, room)?
                 .report
                 .into_vec(),
         }),

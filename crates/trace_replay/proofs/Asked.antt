@@ -1,5 +1,5 @@
 -- A query is answered behind its barrier.
-use Rattle.std.proofs.Common.{ℕ, ◌≡◌, ◌≤◌, ◌<◌, ◌+◌, ◌^◌, ◌∷◌, [], ◌++◌, ◌∙◌, true, false, List, length, map, get_or, sym, ap, refl, subst, arith, length-append}
+use Rattle.std.proofs.Common.{ℕ, ◌≡◌, ◌≤◌, ◌<◌, ◌+◌, ◌^◌, ◌∷◌, [], ◌++◌, ◌∙◌, true, false, List, length, map, get_or, sym, ap, refl, subst, arith, append-nil, length-append}
 use Rattle.std.specs.Prelude.{slice_get, Some, unwrap_or, option_map, fold}
 use Rattle.std.specs.declared.option.Option.{Option}
 use Rattle.std.specs.Bool.{IsTrue}
@@ -44,7 +44,7 @@ use Rattle.trace_replay.specs.Agents.{Standing, AllStand, PassesAll, SeesAll, Is
 use Rattle.trace_replay.specs.Asking.{AreMore, bad_by, sight_item, item_at, query_items, PrintsQuery}
 use Rattle.trace_replay.specs.Barriers.{PrintsPending}
 use Rattle.trace_replay.specs.Printing.{splits_of, lefts_of}
-use Rattle.trace_replay.specs.Segments.{Splits, filled, Pending, pending_of, pending_items}
+use Rattle.trace_replay.specs.Segments.{Splits, filled, pending_of, pending_items}
 use Rattle.trace_replay.specs.Sights.{IsSightAt, AreSights}
 use Rattle.trace_replay.specs.Standing.{Way, Stands, AreFew, IsPrinted, IsRight, IsKeptOn, IsNext, pending_at}
 use Rattle.trace_replay.proofs.Closes.{at, here, barrier_paid, left_ok, right_behind, shelf_behind, stands_closed, held_now, first_behind}
@@ -56,6 +56,7 @@ use Rattle.trace_replay.proofs.Nets.{AgreeBelow, flood_same}
 use Rattle.trace_replay.proofs.Passed.{ledger_queried, items_filled}
 use Rattle.trace_replay.proofs.Passing.{passed_router}
 use Rattle.trace_replay.proofs.Quiet.{AreQuiet, fold_append, quiet_append, quiet_cons, quiet_map, quiet_flat_map, quiet_pending, quiet_left, map_same}
+use Rattle.trace_replay.proofs.Reported.{text_whole}
 use Rattle.trace_replay.proofs.Sums.{rose_add, rose_less, get_at, some_of}
 use Rattle.trace_replay.proofs.Texts.{longer}
 
@@ -301,20 +302,22 @@ module _ {A S : Type 0} (way : Way A) (stands : Standing A) (shown : S → Shown
           ap (λ (xs : List Item). fold with_answer z xs) items_is ∙ fold_append front (graph_items line.number graph) z
           ∙ ap (λ y. fold with_answer y (graph_items line.number graph)) (front_quiet.each z) ∙ graph_totals line.number graph z
 
-      printed : IsPrinted t G new.report.items new.totals
+      printed : IsPrinted t G [] new.report.items new.totals
       printed =
-          let p = old.printed in
+          let r = old.reported in
+          let p = r.printed in
           let text = text_of t in
           let waits = pending_items f (pending_of seg) in
           let before : mid_s.report.items ≡ text (p.items ++ waits) =
-          pends.report ∙ ap (λ (xs : List Pending). s.report.items ++ text (pending_items f xs)) old.pending_is ∙ ap (λ l. l ++ text waits) p.report_is ∙ sym (flat_map-append _ p.items waits) in
+          text_whole t f p.items r.early (pending_at t s) (pending_of seg) s.report.items mid_s.report.items (p.report_is f) pends.report r.pending_is in
           let e1 = ap length pends.report ∙ length-append s.report.items (text (pending_items f (pending_at t s))) in
           let up : length mid_s.report.items + 1 ≤ length new.report.items = longer t.topology.names line.number _ mid_s.report.items new.report.items prints.report in
           let M : Totals → Type 0 = λ z. AreMore z new.totals in
           record {
             items = (p.items ++ waits) ++ items;
             answered = (p.items ++ waits, items, items_filled t f seg history p.items old.ordered.inner p.answered, are, refl);
-            report_is = prints.report ∙ ap (λ l. l ++ text items) before ∙ sym (flat_map-append _ (p.items ++ waits) items);
+            report_is = λ f'. prints.report ∙ ap (λ l. l ++ text items) before ∙ sym (flat_map-append _ (p.items ++ waits) items)
+                ∙ ap (λ (xs : List Item). text xs) (sym (append-nil ((p.items ++ waits) ++ items)));
             totals_are =
                 prints.totals ∙ ap (λ (z : Totals). with_answer z (answer_item line.number graph)) (pends.totals ∙ p.totals_are)
                 ∙ sym (fold_append (p.items ++ waits) items no_totals ∙ ap (λ (z : Totals). fold with_answer z items) (fold_append p.items waits no_totals ∙ (quiet_pending f (pending_of seg)).each (totals_of p.items)) ∙ items_totals (totals_of p.items));

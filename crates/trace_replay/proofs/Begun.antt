@@ -7,6 +7,7 @@ use Rattle.spie_base.specs.Shapes.{shape_of}
 use Rattle.spie_base.specs.declared.Entry.{Entry}
 use Rattle.spie_base.specs.declared.PageShape.{PageShape}
 use Rattle.page_gate.specs.Held.{PlaneId}
+use Rattle.report_text.specs.declared.Item.{Item}
 use Rattle.report_text.specs.declared.Item.TheVariants.{Head}
 use Rattle.trace_format.specs.declared.Line.{Line}
 use Rattle.trace_format.specs.declared.Trace.{Trace}
@@ -21,6 +22,7 @@ use Rattle.trace_history.specs.History.{History, IsHistoryOf}
 use Rattle.trace_history.specs.Outcomes.{fault_marks}
 use Rattle.trace_history.specs.Receipts.{IsLegal}
 use Rattle.trace_history.specs.Replay.{IsPossible}
+use Rattle.trace_history.specs.Report.{text_of}
 use Rattle.trace_history.specs.Routers.{count, rules_of, sum_over}
 use Rattle.trace_history.specs.Workers.{YardView, AreAnswered, IsYardOf, IsReplayedBy, gathered}
 use Rattle.trace_history.proofs.Sequential.{sequential_is_legal}
@@ -29,12 +31,13 @@ use Rattle.trace_replay.specs.declared.state.Answer.{Answer}
 use Rattle.trace_replay.specs.declared.state.State.{State}
 use Rattle.trace_replay.specs.Agents.{Standing}
 use Rattle.trace_replay.specs.Loop.{HasDone}
-use Rattle.trace_replay.specs.Segments.{Splits, filled, is_barrier_line, numbered}
+use Rattle.trace_replay.specs.Segments.{Splits, Pending, filled, is_barrier_line, numbered, pending_items}
 use Rattle.trace_replay.specs.Standing.{Way, Stands, IsBegun, AreLinesRight, AreGathered, IsRight, IsKeptOn, AreFew}
 use Rattle.trace_replay.specs.Yards.{AreBeside, by_workers, yard_view, yard_views}
 use Rattle.trace_replay.proofs.Answered.{right_begun}
 use Rattle.trace_replay.proofs.Gathering.{worked_none}
 use Rattle.trace_replay.proofs.Beside.{length_views, view_there}
+use Rattle.trace_replay.proofs.Reported.{none_early}
 use Rattle.trace_replay.proofs.Sums.{rose_less, rose_none, sum_none, get_at, some_of}
 
 pub stands_begun : {A : Type 0} (way : Way A) (stands : Standing A) (t : Trace) (agents : List A) (s : State) (now : ShelfView) → length agents ≡ count t
@@ -43,8 +46,6 @@ stands_begun way stands t agents s now count_is first empty begun = record {
   count_is = count_is;
   clock_is = begun.clock;
   clock_fits = let e = begun.clock in omega (arith, e);
-  first_is = begun.first;
-  pending_is = ap (λ (xs : List Answer). numbered t.lines s.first xs) begun.answers;
   us = λ r. nothing_unfinished;
   us_none = λ r none. refl;
   us_closed = λ f r x h. absurd (has_none x h);
@@ -52,13 +53,18 @@ stands_begun way stands t agents s now count_is first empty begun = record {
   ordered = record { inner = tt; once = tt; barred = tt; forward = tt };
   gathered_are = λ r d l. empty r d l ∙ sym (worked_none way.workers r);
   right = record { lines = right_begun (way.workers == 1) way.workers t; allowed_before = tt; allowed = λ f hyp. tt; same_digests = tt };
-  printed = record {
-    items = Head ∷ [];
-    answered = refl;
-    report_is = begun.report;
-    totals_are = begun.totals;
-    few = let F : Totals → Type 0 = λ z. AreFew z (length s.report.items) in
-        subst F (sym begun.totals) (record { nodes = omega arith; edges = omega arith; unknown = omega arith; clear = omega arith });
+  reported = record {
+    early = [];
+    first_is = begun.first;
+    pending_is = ap (λ (xs : List Answer). numbered t.lines s.first xs) begun.answers;
+    printed = record {
+      items = Head ∷ [];
+      answered = refl;
+      report_is = λ f. begun.report;
+      totals_are = begun.totals;
+      few = let F : Totals → Type 0 = λ z. AreFew z (length s.report.items) in
+          subst F (sym begun.totals) (record { nodes = omega arith; edges = omega arith; unknown = omega arith; clear = omega arith });
+    };
   };
   shelf = record {
     later = omega arith;
@@ -153,11 +159,14 @@ replayed W t start now d planes agents s text sound done is beside shapes =
     let stood = subst S none done.stood in
     let f : Splits = λ r. no_split in
     let answered = answered_as (W == 1) W t done.history stood.right.lines in
+    let p = stood.reported.printed in
+    let text_is : s.report.items ≡ text_of t p.items =
+    p.report_is f ∙ ap (λ (xs : List Pending). text_of t (p.items ++ pending_items f xs)) (none_early t done.history [] s stood.reported refl) ∙ ap (λ (xs : List Item). text_of t xs) (append-nil p.items) in
     record {
       history = done.history;
       legal = answered.0;
       answered = answered.1;
       done = possible W t t.lines done.history stood.us start now (subst H (take-length t.lines) (subst L none done.lines_are f)) stood.right stood.shelf;
-      report = record { items = stood.printed.items; answered = stood.printed.answered; text_is = is ∙ stood.printed.report_is; totals_are = stood.printed.totals_are };
+      report = record { items = p.items; answered = p.answered; text_is = is ∙ text_is; totals_are = p.totals_are };
       yard_is = yard_left W t done.history planes agents beside stood.count_is shapes stood.gathered_are;
     }

@@ -1,8 +1,9 @@
 -- What is stood for behind a barrier.
-use Rattle.std.proofs.Common.{ℕ, ◌≡◌, ◌≤◌, ◌<◌, ◌+◌, ◌-◌, ◌^◌, ◌∷◌, [], ◌++◌, ◌∙◌, ⊎_elim, Bool, true, false, ◌==◌, List, length, map, get_or, sym, ap, refl, subst, arith, length-append}
+use Rattle.std.proofs.Common.{ℕ, ◌≡◌, ◌≤◌, ◌<◌, ◌+◌, ◌-◌, ◌^◌, ◌∷◌, [], ◌++◌, ◌∙◌, ⊎_elim, Bool, true, false, ◌==◌, List, length, map, get_or, sym, ap, refl, subst, arith, append-nil, length-append}
 use Rattle.std.specs.Prelude.{Option, option_map}
 use Rattle.std.specs.List.{Contains, All, flat_map}
-use Rattle.std.proofs.lemmas.List.Elements.{Contains-push_cases}
+use Rattle.std.proofs.lemmas.List.{map-append}
+use Rattle.std.proofs.lemmas.List.Elements.{Contains-append_right, Contains-push_cases}
 use Rattle.std.proofs.lemmas.Grind.{flat_map-append}
 use Rattle.spie_base.specs.Causes.{RoseBy}
 use Rattle.spie_base.proofs.Membership.{has_none, from_map}
@@ -40,18 +41,14 @@ use Rattle.trace_replay.specs.Standing.{Way, Stands, IsNext, AreFew, IsPrinted, 
 use Rattle.trace_replay.proofs.Answered.{right_closed}
 use Rattle.trace_replay.proofs.Gathering.{gathered_closed}
 use Rattle.trace_replay.proofs.Filled.{moment_of, clock_filled, forward_filled, length_filled}
-use Rattle.trace_replay.proofs.Inner.{answers_count, late_by, room_at, stands_at}
+use Rattle.trace_replay.proofs.Inner.{late_by, room_at, stands_at}
 use Rattle.trace_replay.proofs.Numbered.{answers_back}
 use Rattle.trace_replay.proofs.Named.{all_of}
 use Rattle.trace_replay.proofs.Passed.{ledger_ticked, ledger_ended, items_filled, each_filled, marks_filled}
 use Rattle.trace_replay.proofs.Passing.{holds_same}
+use Rattle.trace_replay.proofs.Reported.{answered_length, few_longer, text_whole}
 use Rattle.trace_replay.proofs.Quiet.{AreQuiet, quiet_append, quiet_cons, quiet_flat_map, quiet_pending, quiet_left, quiet_closing, totals_quiet, flat_map_same}
 use Rattle.trace_replay.proofs.Sums.{rose_add, rose_less, sum_none, sum_less, sum_add, some_of}
-
-pub few_longer : (totals : Totals) (n m : ℕ) → n ≤ m → AreFew totals n → AreFew totals m
-few_longer totals n m l few =
-    let a = few.nodes in let b = few.edges in let c = few.unknown in let d = few.clear in
-    record { nodes = omega arith; edges = omega arith; unknown = omega arith; clear = omega arith }
 
 -- ---- before the barrier
 
@@ -74,16 +71,26 @@ named_each n (moment ∷ seg) o x h =
 module _ {A : Type 0} (way : Way A) (stands : Standing A) (t : Trace) (line : Line) (agents : List A) (s : State) (now : ShelfView) (ready : IsNext way stands t line agents s now) where
   pub answers_there : s.first + length s.answers.items < length t.lines
   answers_there =
-      let a = ready.3.first_is in
-      let b = answers_count way stands t ready.0 ready.1 ready.2 agents s now ready.3 in
+      let a = ready.3.reported.first_is in
+      let b = answered_length t ready.1 ready.2 s ready.3.reported in
       let c = ready.4.there in omega (arith, a, b, c)
+
+  pub first_fits : s.first < 2 ^ 63
+  first_fits =
+      let a = ready.3.reported.first_is in
+      let b = answered_length t ready.1 ready.2 s ready.3.reported in
+      let c = ready.4.few in omega (arith, a, b, c)
 
   pub answers_named : All (IsAnswerNamed (count t)) s.answers.items
   answers_named = all_of (IsAnswerNamed (count t)) s.answers.items
       (λ a h.
       let A : List Answer → Type 0 = λ xs. Contains xs a in
       let S : List Pending → Type 0 = λ xs. Contains (map (λ (x : Pending). x.answer) xs) a in
-      let in_pending = subst S ready.3.pending_is (subst A (sym (answers_back t.lines s.first s.answers.items)) h) in
+      let r = ready.3.reported in
+      let waiting = pending_at t s in
+      let in_waiting = subst A (sym (answers_back t.lines s.first s.answers.items)) h in
+      let in_all = subst A (sym (map-append (λ (x : Pending). x.answer) r.early waiting)) (Contains-append_right (map (λ (x : Pending). x.answer) r.early) (map (λ (x : Pending). x.answer) waiting) a in_waiting) in
+      let in_pending = subst S r.pending_is in_all in
       let image = from_map (λ (x : Pending). x.answer) (pending_of ready.2) a in_pending in
       let N : Answer → Type 0 = λ y. IsAnswerNamed (count t) y in
       subst N image.is (named_each (count t) ready.2 ready.3.ordered.once image.of image.has))
@@ -202,7 +209,7 @@ module _ {A : Type 0} (way : Way A) (stands : Standing A) (t : Trace) (start : S
     -- the agents and the shelf may have been asked further, and stand for the same
     pub stands_closed : (new : State) (end : ShelfView)
         → new.clock ≡ clock G → new.clock < 2 ^ 48 → new.first ≡ length G → new.answers.items ≡ [] → IsForward event (clock F)
-        → AllKeepEntries way.entries agents after → IsRight way.workers t G [] → IsPrinted t G new.report.items new.totals → IsKeptOn t G [] none_left start end
+        → AllKeepEntries way.entries agents after → IsRight way.workers t G [] → IsPrinted t G [] new.report.items new.totals → IsKeptOn t G [] none_left start end
         → Stands way stands t start G [] after new end
     stands_closed new end clock_is clock_fits first_is none forward keep right printed shelf =
         let count_is : length after ≡ count t = all.same ∙ old.count_is in
@@ -210,8 +217,6 @@ module _ {A : Type 0} (way : Way A) (stands : Standing A) (t : Trace) (start : S
           count_is = count_is;
           clock_is = clock_is;
           clock_fits = clock_fits;
-          first_is = first_is;
-          pending_is = ap (λ (xs : List Answer). numbered t.lines new.first xs) none;
           us = none_left;
           us_none = λ r none. refl;
           us_closed = λ f' r x h. absurd (has_none x h);
@@ -227,27 +232,28 @@ module _ {A : Type 0} (way : Way A) (stands : Standing A) (t : Trace) (start : S
               keep.same r d l0 ∙ old.gathered_are r d l ∙ sym (gathered_closed way.workers r line event f seg history is_b old.ordered.inner old.ordered.barred);
           ordered = record { inner = tt; once = tt; barred = is_b; forward = (forward_filled f seg history old.ordered.inner old.ordered.forward, forward) };
           right = right;
-          printed = printed;
+          reported = record { early = []; first_is = omega (arith, first_is); pending_is = ap (λ (xs : List Answer). numbered t.lines new.first xs) none; printed = printed };
           shelf = shelf;
         }
 
   -- the next segment begins behind the barrier
   pub first_behind : (last : Moment) (mid new : State) → PrintsPending t barriers s mid → new.first ≡ mid.first → new.first ≡ length (last ∷ F)
   first_behind last mid new pends same =
-      let a = old.first_is in
-      let b = answers_count way stands t start history seg agents s was old in
+      let a = old.reported.first_is in
+      let b = answered_length t history seg s old.reported in
       let c = pends.first in
       let e = length_filled f seg history in omega (arith, a, b, c, e, same)
 
   -- the report with the answers of the segment and the items of its barrier
   pub printed_more : (line : ℕ) (event : Event) (mid new : State) (items : List Item) (time' : ℕ) → PrintsPending t barriers s mid → Prints t items time' mid new
-      → AreItems t F (moment_of line event ∷ F) line event items → AreQuiet items → IsPrinted t (moment_of line event ∷ F) new.report.items new.totals
+      → AreItems t F (moment_of line event ∷ F) line event items → AreQuiet items → IsPrinted t (moment_of line event ∷ F) [] new.report.items new.totals
   printed_more line event mid new items time' pends prints are quiet =
-      let p = old.printed in
+      let r = old.reported in
+      let p = r.printed in
       let text = text_of t in
       let waits = pending_items f (pending_of seg) in
       let report : new.report.items ≡ text ((p.items ++ waits) ++ items) =
-      prints.report ∙ ap (λ l. l ++ text items) (pends.report ∙ ap (λ (xs : List Pending). s.report.items ++ text (pending_items f xs)) old.pending_is ∙ ap (λ l. l ++ text waits) p.report_is ∙ sym (flat_map-append _ p.items waits))
+      prints.report ∙ ap (λ l. l ++ text items) (text_whole t f p.items r.early (pending_at t s) (pending_of seg) s.report.items mid.report.items (p.report_is f) pends.report r.pending_is)
       ∙ sym (flat_map-append _ (p.items ++ waits) items) in
       let longer : length new.report.items ≡ length s.report.items + (length (text (pending_items f (pending_at t s))) + length (text items)) =
       (let e1 = ap length prints.report ∙ length-append mid.report.items (text items) in
@@ -257,7 +263,7 @@ module _ {A : Type 0} (way : Way A) (stands : Standing A) (t : Trace) (start : S
       record {
         items = (p.items ++ waits) ++ items;
         answered = (p.items ++ waits, items, items_filled t f seg history p.items old.ordered.inner p.answered, are, refl);
-        report_is = report;
+        report_is = λ f'. report ∙ ap (λ (xs : List Item). text xs) (sym (append-nil ((p.items ++ waits) ++ items)));
         totals_are = same ∙ p.totals_are ∙ sym (totals_quiet p.items waits (quiet_pending f (pending_of seg))) ∙ sym (totals_quiet (p.items ++ waits) items quiet);
         few = subst F' (sym same) (few_longer s.totals (length s.report.items) (length new.report.items) (omega (arith, longer)) p.few);
       }

@@ -19,28 +19,21 @@ use Rattle.trace_history.specs.Receipts.{is_barrier, receipt_by, IsInTurn, up_to
 use Rattle.trace_history.specs.Workers.{entry_by, worked, gathered}
 use Rattle.trace_history.specs.Routers.{count, rules_of}
 use Rattle.trace_history.specs.Watched.{IsSequentialWatch}
-use Rattle.trace_history.specs.declared.Totals.{Totals}
 use Rattle.trace_history.proofs.Sequential.{account_router}
 use Rattle.trace_replay.specs.declared.state.State.{State}
-use Rattle.trace_replay.specs.declared.state.Answer.{Answer}
 use Rattle.trace_replay.specs.Agents.{Standing, IsHeld}
-use Rattle.trace_replay.specs.Segments.{Splits, with_split, filled, archived_in, archived_by, IsFirst, answer_of, Pending, numbered, number_at, pending_of}
-use Rattle.trace_replay.specs.Standing.{Way, Stands, Fits, IsKeptOn, IsPrinted, Adds, AreSplits, AreGathered}
+use Rattle.trace_replay.specs.Segments.{Splits, with_split, filled, archived_in, archived_by, IsFirst, answer_of, number_at}
+use Rattle.trace_replay.specs.Standing.{Way, Stands, Fits, IsKeptOn, Adds, AreSplits, AreGathered}
 use Rattle.trace_replay.proofs.Answered.{alone_of, of_alone}
 use Rattle.trace_replay.proofs.Gathering.{gathered_more}
 use Rattle.trace_replay.proofs.Closed.{grows_by}
-use Rattle.trace_replay.proofs.Numbered.{pending, numbered_push, numbered_length, pending_length}
+use Rattle.trace_replay.proofs.Reported.{clock_kept, reported_more}
 use Rattle.trace_replay.proofs.Sums.{same_or}
 use Rattle.trace_replay.proofs.Filled.{moment_of, clock_filled, up_filled, forward_filled, late_history, few_history, length_filled}
 
 pub none_of : {X : Type 0} (o : Option X) → is_some o ≡ false → o ≡ None
 none_of None e = refl
 none_of (Some x) e = absurd (false≢true (sym e))
-
--- there is an answer for each moment of the segment
-pub answers_count : {A : Type 0} (way : Way A) (stands : Standing A) (t : Trace) (start : ShelfView) (history seg : History) (agents : List A) (s : State) (was : ShelfView) → Stands way stands t start history seg agents s was
-    → length s.answers.items ≡ length seg
-answers_count way stands t start history seg agents s was old = sym (numbered_length t.lines s.first s.answers.items) ∙ ap length old.pending_is ∙ pending_length seg
 
 module _ {A : Type 0} (way : Way A) (stands : Standing A) (t : Trace) (start : ShelfView) (history seg : History) (agents : List A) (s s' : State) (was now : ShelfView)
     (old : Stands way stands t start history seg agents s was) where
@@ -121,26 +114,18 @@ module _ {A : Type 0} (way : Way A) (stands : Standing A) (t : Trace) (start : S
         (sym (append-nil (way.entries (get_or agents r d))) ∙ ap (λ (es : List Entry). way.entries (get_or agents r d) ++ es) (sym (no_entry r ne)))))
         (same_or r r0)
 
-    pub stands_more : is_barrier event ≡ false → IsFirst (count t) event (archived_in seg) → number_at t.lines (length seg + length history) ≡ line → Adds s s' (answer_of event)
+    pub stands_more : is_barrier event ≡ false → IsFirst (count t) event (archived_in seg) → number_at t.lines (length seg + length history) ≡ line → Adds t line s s' (answer_of event)
         → ((f : Splits) → IsInTurn (rules_of t) (F f) (with_split f event)) → ((f : Splits) → IsSequentialWatch (rules_of t) (F f) (with_split f event))
         → ((f : Splits) → AreSplits t f (G line event f) → AreSplits t f (F f) × IsAllowedEvent (count t) (rules_of t) (F f) (G line event f) (with_split f event))
         → IsKeptOn t history (moment_of line event ∷ seg) us start now
         → Stands way stands t start history (moment_of line event ∷ seg) (set agents r0 new) s' now
     stands_more inner first place adds turn watch allowed kept =
-        let P : List ℕ → Type 0 = λ report. IsPrinted t history report s.totals in
-        let Q : Totals → Type 0 = λ totals. IsPrinted t history s'.report.items totals in
         let C : ℕ → Type 0 = λ c. c < 2 ^ 48 in
+        let clock : s'.clock ≡ s.clock = clock_kept t line s s' (answer_of event) adds in
         record {
           count_is = length-set agents r0 new ∙ old.count_is;
-          clock_is = adds.clock ∙ old.clock_is;
-          clock_fits = subst C (sym adds.clock) old.clock_fits;
-          first_is = adds.first ∙ old.first_is;
-          pending_is =
-              let N : ℕ → List Answer → List Pending = numbered t.lines in
-              ap (λ k. N k s'.answers.items) adds.first ∙ ap (N s.first) adds.answers
-              ∙ numbered_push t.lines s.first (length seg) s.answers.items (answer_of event) (answers_count way stands t start history seg agents s was old)
-              ∙ ap (λ (xs : List Pending). xs ++ pending (number_at t.lines (s.first + length seg)) (answer_of event) ∷ []) old.pending_is
-              ∙ ap (λ k. pending_of seg ++ pending k (answer_of event) ∷ []) (let e = old.first_is in let same : s.first + length seg ≡ length seg + length history = omega (arith, e) in ap (λ k. number_at t.lines k) same ∙ place);
+          clock_is = clock ∙ old.clock_is;
+          clock_fits = subst C (sym clock) old.clock_fits;
           us = us;
           us_none = none;
           us_closed = λ f r x h. ⊎_elim
@@ -160,7 +145,7 @@ module _ {A : Type 0} (way : Way A) (stands : Standing A) (t : Trace) (start : S
             allowed = λ f hyp. let x = allowed f hyp in (old.right.allowed f x.0, x.1);
             same_digests = old.right.same_digests;
           };
-          printed = subst Q (sym adds.totals) (subst P (sym adds.report) old.printed);
+          reported = reported_more t history seg s old.reported s' line event place adds;
           shelf = kept;
         }
 

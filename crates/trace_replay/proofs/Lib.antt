@@ -34,6 +34,7 @@ pub mod Preparing
 pub mod Quiet
 pub mod Readied
 pub mod RecordEvents
+pub mod Reported
 pub mod Returned
 pub mod RowCounts
 pub mod RowsAdded

@@ -3,7 +3,6 @@ use Rattle.std.proofs.Common.{ℕ, zero, suc, ◌≡◌, ◌≢◌, ◌≤◌, �
 use Rattle.std.specs.Prelude.{slice_get, Some}
 use Rattle.std.specs.List.{Contains, flat_map}
 use Rattle.std.proofs.lemmas.Bool.{eqb-true, ne_eqb}
-use Rattle.std.proofs.lemmas.List.{nil_from_length}
 use Rattle.std.proofs.lemmas.List.Elements.{Contains-append_left}
 use Rattle.spie_base.proofs.Membership.{has_none, has_one, has_first, has_later, from_flat_map}
 use Rattle.spie_base.specs.declared.Entry.{Entry}
@@ -44,9 +43,9 @@ use Rattle.trace_replay.proofs.Closed.{closed_history}
 use Rattle.trace_replay.proofs.Filled.{up_filled}
 use Rattle.trace_replay.proofs.Gathering.{worked_none}
 use Rattle.trace_replay.proofs.HeldApart.{holds_apart}
-use Rattle.trace_replay.proofs.Inner.{answers_count}
 use Rattle.trace_replay.proofs.LegalApart.{legal_apart}
 use Rattle.trace_replay.proofs.Merged.{IsMerged, IsBy, merged, history_of, receipts_of, by_events, pending_by, map_merged}
+use Rattle.trace_replay.proofs.Reported.{none_early, none_waiting}
 use Rattle.trace_replay.proofs.RecordEvents.{events_of, receipts_back}
 
 -- the state with the answers to a segment's lines
@@ -252,7 +251,14 @@ module _ {A V : Type 0} (way : Way A) (stands : Standing A) (besides : Besides A
   -- ---- the answers
 
   none_before : s.answers.items ≡ []
-  none_before = nil_from_length s.answers.items (answers_count way stands t start history [] before s was old)
+  none_before = none_waiting t history [] s old.reported refl
+
+  early_before : old.reported.early ≡ []
+  early_before = none_early t history [] s old.reported refl
+
+  first_before : s.first ≡ from
+  first_before =
+      let a = old.reported.first_is in let b = ap (λ (xs : List Pending). length xs) early_before in let c = fit.begins in omega (arith, a, b, c)
 
   pending : numbered t.lines s'.first s'.answers.items ≡ pending_of seg
   unfolding seg
@@ -260,7 +266,7 @@ module _ {A V : Type 0} (way : Way A) (stands : Standing A) (besides : Besides A
       let N : ℕ → List Answer → List Pending = numbered t.lines in
       let X = interleaved lines (map answer_of (events_of xs)) in
       let is_given : given ≡ map answer_of by.events = stood.answers_are ∙ by.answers in
-      ap (λ k. N k s'.answers.items) (answered.first ∙ old.first_is ∙ fit.begins)
+      ap (λ k. N k s'.answers.items) (answered.first ∙ first_before)
       ∙ ap (N from) (answered.answers_are ∙ ap (λ (ys : List Answer). ys ++ X given) none_before ∙ ap X is_given ∙ sym (map_merged answer_of lines (events_of xs) by.events))
       ∙ sym (pending_by t.lines lines (drop to t.lines) from events t.sigs [] all.events slice)
 
@@ -268,15 +274,14 @@ module _ {A V : Type 0} (way : Way A) (stands : Standing A) (besides : Besides A
 
   pub stands_together : Stands way stands t start history seg after s' now
   stands_together =
-      let P : List ℕ → Type 0 = λ report. IsPrinted t history report s.totals in
-      let Q : Totals → Type 0 = λ totals. IsPrinted t history s'.report.items totals in
+      let E = old.reported.early in
+      let P : List ℕ → Type 0 = λ report. IsPrinted t history E report s.totals in
+      let Q : Totals → Type 0 = λ totals. IsPrinted t history E s'.report.items totals in
       let C : ℕ → Type 0 = λ c. c < 2 ^ 48 in
       record {
         count_is = same ∙ old.count_is;
         clock_is = answered.clock ∙ old.clock_is;
         clock_fits = subst C (sym answered.clock) old.clock_fits;
-        first_is = answered.first ∙ old.first_is;
-        pending_is = pending;
         us = stood.us;
         us_none = λ r e. stood.us_none r (ap (λ (h : History). is_archived (archived_in h) r) (sym seg_ops) ∙ ap (λ (rs : List ℕ). is_archived rs r) (archived_operated seg) ∙ e);
         us_closed = λ f r x h. let L : Ledger → Type 0 = λ l. x.page < length l.account.closings in subst L (sym (is_ledger f r)) (stood.us_closed f r x h);
@@ -297,6 +302,11 @@ module _ {A V : Type 0} (way : Way A) (stands : Standing A) (besides : Besides A
           forward = old.ordered.forward;
         };
         right = right;
-        printed = subst Q (sym answered.totals) (subst P (sym answered.report) old.printed);
+        reported = record {
+          early = E;
+          first_is = answered.first ∙ old.reported.first_is;
+          pending_is = ap (λ (xs : List Pending). xs ++ numbered t.lines s'.first s'.answers.items) early_before ∙ pending;
+          printed = subst Q (sym answered.totals) (subst P (sym answered.report) old.reported.printed);
+        };
         shelf = kept;
       }

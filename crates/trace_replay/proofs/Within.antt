@@ -58,7 +58,7 @@ module _ {A : Type 0} (way : Way A) (stands : Standing A) (t : Trace) (line : Li
       → (page ≡ open_page l.account.closings) × stands new rules (record l { account = with_hop l.account hop page }) u)
       → ((c : Contents) (rules : Rules) (l : Ledger) (u : Unfinished) → ArePutClosed l u → page ≡ open_page l.account.closings → IsHeld rules c l u → IsHeld rules c (record l { account = with_hop l.account hop page }) u)
       → way.entries new ≡ way.entries (get_or agents hop.router d) ++ record { page = record { number = page }; sig = hop.sig } ∷ []
-      → Adds s s' (answer_of (recorded hop page))
+      → Adds t line.number s s' (answer_of (recorded hop page))
       → Does way stands t line agents (set agents hop.router new) s s' was was
   record_line hop page named is_event call held entries adds start history seg old fits =
       let event = recorded hop page in
@@ -85,7 +85,7 @@ module _ {A : Type 0} (way : Way A) (stands : Standing A) (t : Trace) (line : Li
       → ((rules : Rules) (l : Ledger) (u : Unfinished) → stands (get_or agents router.number d) rules l u → page ≡ open_page l.account.closings)
       → ((rules : Rules) (l : Ledger) (u : Unfinished) → stands (get_or agents router.number d) rules l u → stands new rules (recorded_in l (open_page l.account.closings) sig) u)
       → way.entries new ≡ way.entries (get_or agents router.number d) ++ record { page = record { number = page }; sig = sig } ∷ []
-      → Adds s s' (Entered (record { number = page }))
+      → Adds t line.number s s' (Entered (record { number = page }))
       → Does way stands t line agents (set agents router.number new) s s' was was
   does_forward router packet sig page is known opened call entries adds =
       let hop : Hop = record { router = router.number; sig = sig; origin = same } in
@@ -102,7 +102,7 @@ module _ {A : Type 0} (way : Way A) (stands : Standing A) (t : Trace) (line : Li
       → ((rules : Rules) (l : Ledger) (u : Unfinished) → stands (get_or agents router.number d) rules l u
       → stands new rules (changed_in (recorded_in l (open_page l.account.closings) sig) page (row_of kind was_sig sig)) u)
       → way.entries new ≡ way.entries (get_or agents router.number d) ++ record { page = record { number = page }; sig = sig } ∷ []
-      → Adds s s' (Entered (record { number = page }))
+      → Adds t line.number s s' (Entered (record { number = page }))
       → Does way stands t line agents (set agents router.number new) s s' was was
   does_change router kind before after was_sig sig page is known_was known opened call entries adds =
       let hop : Hop = record { router = router.number; sig = sig; origin = changed kind was_sig } in
@@ -121,7 +121,7 @@ module _ {A : Type 0} (way : Way A) (stands : Standing A) (t : Trace) (line : Li
       → ((rules : Rules) (l : Ledger) (u : Unfinished) → stands (get_or agents router.number d) rules l u → page ≡ open_page l.account.closings + 1)
       → ((rules : Rules) (l : Ledger) (u : Unfinished) → stands (get_or agents router.number d) rules l u → stands new rules (turned_at l s.clock) u)
       → way.entries new ≡ way.entries (get_or agents router.number d)
-      → Adds s s' (Opened (record { number = page }))
+      → Adds t line.number s s' (Opened (record { number = page }))
       → Does way stands t line agents (set agents router.number new) s s' was was
   does_rotate router page is opened call entries adds start history seg old fits =
       let event = rotated router.number page in
@@ -151,7 +151,7 @@ module _ {A : Type 0} (way : Way A) (stands : Standing A) (t : Trace) (line : Li
       → was.faults ≤ now.faults → now.tells ≡ was.tells
       → (more : Unfinished) → IsNoted (stands (get_or agents router.number d)) (stands new) more was.tells was.contents now.contents → RoseBy more.refused was.faults now.faults
       → way.entries new ≡ way.entries (get_or agents router.number d)
-      → Adds s s' (Archived router)
+      → Adds t line.number s s' (Archived router)
       → Does way stands t line agents (set agents router.number new) s s' was now
   does_archive router is later still more call rose entries adds start history seg old fits =
       let event = archived router.number [] [] in
@@ -251,7 +251,7 @@ module _ {A : Type 0} (way : Way A) (stands : Standing A) (t : Trace) (line : Li
       → ((rules : Rules) (l : Ledger) (u : Unfinished) → stands (get_or agents router.number d) rules l u → answer ≡ watch_of rules l s.clock sig)
       → ((rules : Rules) (l : Ledger) (u : Unfinished) → stands (get_or agents router.number d) rules l u → stands new rules l u)
       → way.entries new ≡ way.entries (get_or agents router.number d)
-      → Adds s s' (Watched answer)
+      → Adds t line.number s s' (Watched answer)
       → Does way stands t line agents (set agents router.number new) s s' was was
   does_watch router packet sig answer is known call keeps entries adds start history seg old fits =
       let event = watched router.number sig answer in

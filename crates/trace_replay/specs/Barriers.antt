@@ -13,7 +13,7 @@ use Rattle.trace_replay.specs.Agents.{barrier_at}
 use Rattle.trace_replay.specs.Printing.{splits_of, lefts_of}
 use Rattle.trace_replay.specs.Segments.{numbered, pending_items}
 
--- the answers since the last barrier are printed
+-- the answers that waited for the barrier are printed
 pub record PrintsPending (t : Trace) (barriers : List Barrier) (before after : State) : Type 0 where
   pub clock : after.clock ≡ before.clock
   pub first : after.first ≡ (before.first + length before.answers.items) + 1

@@ -1,5 +1,5 @@
 -- What is printed.
-use Rattle.std.specs.Prelude.{ℕ, ◌<◌, ◌≡◌, ◌++◌, List, map}
+use Rattle.std.specs.Prelude.{ℕ, ◌<◌, ◌≡◌, ◌++◌, List, map, Bool, true, false}
 use Rattle.std.specs.declared.option.Option.{Option}
 use Rattle.std.specs.List.{All, flat_map}
 use Rattle.spie_base.specs.declared.RouterId.{RouterId}
@@ -35,6 +35,11 @@ pub record IsGraphNamed (names : List (List ℕ)) (graph : Graph) : Type 0 where
   pub nodes : All (IsNodeNamed names) graph.nodes
   pub edges : All (IsEdgeNamed names) graph.edges
   pub unknown : All (IsNodeNamed names) graph.unknown
+
+-- the answer is an archival
+abbrev pub is_archival : Answer → Bool
+is_archival (Archived router) = true
+is_archival _ = false
 
 -- the router of an archival exists
 abbrev pub IsAnswerNamed : (routers : ℕ) → Answer → Type 0

@@ -1,10 +1,11 @@
 -- What a replay stands for.
-use Rattle.std.specs.Prelude.{ℕ, ◌+◌, ◌*◌, ◌^◌, ◌<◌, ◌≤◌, ◌≡◌, ◌==◌, List, [], ◌∷◌, ◌++◌, length, slice_index_or, Bool, true, false, Some}
+use Rattle.std.specs.Prelude.{ℕ, ◌+◌, ◌*◌, ◌^◌, ◌<◌, ◌≤◌, ◌≡◌, ◌==◌, ◌⊎◌, List, [], ◌∷◌, ◌++◌, length, slice_index_or, Bool, true, false, Some}
 use Rattle.std.specs.List.{Contains}
 use Rattle.spie_base.specs.Causes.{RoseBy}
 use Rattle.spie_base.specs.declared.Entry.{Entry}
 use Rattle.report_text.specs.declared.Item.{Item}
 use Rattle.report_text.specs.declared.Item.TheVariants.{Head}
+use Rattle.report_text.specs.Report.{item_text}
 use Rattle.trace_format.specs.declared.Line.{Line}
 use Rattle.trace_format.specs.declared.Trace.{Trace}
 use Rattle.trace_format.specs.declared.limits.TheConstants.{MOST_BYTES, MOST_RECORDS}
@@ -24,7 +25,7 @@ use Rattle.trace_history.specs.Workers.{worked, gathered}
 use Rattle.trace_replay.specs.declared.state.Answer.{Answer}
 use Rattle.trace_replay.specs.declared.state.State.{State}
 use Rattle.trace_replay.specs.Agents.{Standing, AllStand, IsHeld}
-use Rattle.trace_replay.specs.Segments.{Splits, filled, AreInner, IsBarred, AreForward, AreOnce, archived_in, Pending, numbered, number_at, pending_of, record_count}
+use Rattle.trace_replay.specs.Segments.{Splits, filled, AreInner, IsBarred, AreForward, AreOnce, archived_in, Pending, numbered, number_at, pending_of, pending_items, item_by, record_count}
 
 -- how a replay goes: by how many workers, and which entries an agent has
 pub record Way (A : Type 0) : Type 0 where
@@ -38,17 +39,25 @@ pub record AreFew (totals : Totals) (bytes : ℕ) : Type 0 where
   pub unknown : totals.unknown ≤ bytes * 2 ^ 64
   pub clear : totals.clear ≤ bytes * 2 ^ 64
 
--- the report is that of a history up to its last barrier
-pub record IsPrinted (t : Trace) (history : History) (report : List ℕ) (totals : Totals) : Type 0 where
+-- the report is that of a history up to its last barrier, with the first answers behind it, whose lines are the same however
+-- archivals split their pages
+pub record IsPrinted (t : Trace) (history : History) (early : List Pending) (report : List ℕ) (totals : Totals) : Type 0 where
   pub items : List Item
   pub answered : AreItemsOf t history items
-  pub report_is : report ≡ text_of t items
+  pub report_is : (f : Splits) → report ≡ text_of t (items ++ pending_items f early)
   pub totals_are : totals ≡ totals_of items
   pub few : AreFew totals (length report)
 
 -- the answers that are not printed yet
 abbrev pub pending_at : Trace → State → List Pending
 pending_at t s = numbered t.lines s.first s.answers.items
+
+-- the first answers of a segment are printed, and the others wait for its barrier
+pub record IsReported (t : Trace) (history seg : History) (s : State) : Type 0 where
+  pub early : List Pending
+  pub first_is : s.first ≡ length history + length early
+  pub pending_is : early ++ pending_at t s ≡ pending_of seg
+  pub printed : IsPrinted t history early s.report.items s.totals
 
 -- the order of a history and of the segment behind it
 pub record IsOrdered (t : Trace) (history seg : History) : Type 0 where
@@ -105,8 +114,6 @@ pub record Stands {A : Type 0} (way : Way A) (stands : Standing A) (t : Trace) (
   pub count_is : length agents ≡ count t
   pub clock_is : s.clock ≡ clock history
   pub clock_fits : s.clock < 2 ^ 48
-  pub first_is : s.first ≡ length history
-  pub pending_is : pending_at t s ≡ pending_of seg
   pub us : ℕ → Unfinished
   pub us_none : (r : ℕ) → is_archived (archived_in seg) r ≡ false → us r ≡ nothing_unfinished
   pub us_closed : (f : Splits) (r : ℕ) (x : PutBits) → Contains (us r).bits_put x → x.page < length (account (rules_of t) r (filled f seg history)).closings
@@ -114,7 +121,7 @@ pub record Stands {A : Type 0} (way : Way A) (stands : Standing A) (t : Trace) (
   pub gathered_are : AreGathered way t history seg agents
   pub ordered : IsOrdered t history seg
   pub right : IsRight way.workers t history seg
-  pub printed : IsPrinted t history s.report.items s.totals
+  pub reported : IsReported t history seg s
   pub shelf : IsKeptOn t history seg us start now
 
 -- a line may be done: it fits what was done before it
@@ -145,13 +152,27 @@ Closes way stands t line before after old new was now =
     (start : ShelfView) (history seg : History) → Stands way stands t start history seg before old was → Fits t history seg old line
     → (f : Splits) × (event : Event) × IsEventOf t.sigs line.what event × Stands way stands t start (record { line = line.number; event = event } ∷ filled f seg history) [] after new now
 
--- the state with one answer more
-pub record Adds (old new : State) (answer : Answer) : Type 0 where
+-- the state with one answer more, which waits
+pub record Waits (old new : State) (answer : Answer) : Type 0 where
   pub clock : new.clock ≡ old.clock
   pub first : new.first ≡ old.first
   pub answers : new.answers.items ≡ old.answers.items ++ answer ∷ []
   pub report : new.report.items ≡ old.report.items
   pub totals : new.totals ≡ old.totals
+
+-- the state with one answer more, whose line is printed: no answer waits, and the line is the same however archivals split
+-- their pages
+pub record IsPrintedAtOnce (t : Trace) (line : ℕ) (old new : State) (answer : Answer) : Type 0 where
+  pub clock : new.clock ≡ old.clock
+  pub first : new.first ≡ old.first + 1
+  pub none : old.answers.items ≡ []
+  pub answers : new.answers.items ≡ []
+  pub report : (f : Splits) → new.report.items ≡ old.report.items ++ item_text t.topology.names (item_by f line answer)
+  pub totals : new.totals ≡ old.totals
+
+-- the answer to a line is printed, or waits for the barrier
+abbrev pub Adds : Trace → (line : ℕ) → (old new : State) → Answer → Type 0
+Adds t line old new answer = IsPrintedAtOnce t line old new answer ⊎ Waits old new answer
 
 -- nothing is done yet: the report has its first line
 pub record IsBegun (t : Trace) (s : State) : Type 0 where

@@ -95,10 +95,11 @@ fn all_lines<H: Shelf>(
     Ok(())
 }
 
-pub fn begun(alloc: Global, trace: &Trace) -> Result<State, NoMemory>
+pub fn begun(alloc: Global, trace: &Trace, room: Vec<u8>) -> Result<State, NoMemory>
     ensures { IfOk result (IsBegun trace.now) }
 {
-    let mut report = Vec::new(alloc);
+    let mut report = room;
+    report.clear();
     push_item(&mut report, &trace.topology, &Item::Head)?;
     Ok(State {
         clock: 0,
@@ -110,7 +111,7 @@ pub fn begun(alloc: Global, trace: &Trace) -> Result<State, NoMemory>
 }
 
 /// Replays the first lines of a trace, by agents that have recorded nothing. The state is that behind the last of these
-/// lines.
+/// lines. The report is written into the room, whose bytes are dropped.
 pub fn replay_lines<H: Shelf>(
     alloc: Global,
     trace: &Trace,
@@ -118,6 +119,7 @@ pub fn replay_lines<H: Shelf>(
     shelf: &mut H,
     planes: &[Plane],
     agents: &mut [Agent],
+    room: Vec<u8>,
 ) -> Result<State, NoMemory>
     requires sound { IsSound trace.now }
     requires lines { lines.now ≡ take (length lines.now) trace.now.lines }
@@ -126,25 +128,26 @@ pub fn replay_lines<H: Shelf>(
     ensures done { IfOk result (λ state. HasDone (by_workers 1) StandsFor trace.now (view_of H.tells H.contents H.faults shelf.old) (length lines.now)
         agents.new state (view_of H.tells H.contents H.faults shelf.new)) }
 {
-    let mut state = begun(alloc, trace)?;
+    let mut state = begun(alloc, trace, room)?;
     all_lines(alloc, trace, lines, shelf, planes, agents, &mut state)?;
     Ok(state)
 }
 
 /// Replays a trace with one worker over a shelf, segment by segment, on a plane for each router, and leaves these with their
 /// agents in the yard. The trace keeps to the rules on names, packets, numbers and times, as each trace that was read
-/// does.
+/// does. The bytes in the room are dropped, and the report is written into its memory.
 ///
-/// Costs, for a record, 7·k multiplications, k bits that are set and one answer that is kept; for a watch, as much for
-/// each page of its window; for a barrier, what each router's does, and the lines of its segment's answers; for a query,
-/// its flood over the pages of the window, and the lines of its answer. Takes a plane of four pages for each router, a page for
-/// each further page of a router that is in memory, 8 bytes for each line of a segment, what the flood takes during a
-/// query, and the report.
+/// Costs, for a record, 7·k multiplications, k bits that are set and its line; for a watch, as much for each page of its
+/// window; for a barrier, what each router's does, and the lines that waited for it; for a query, its flood over the pages of
+/// the window, and the lines of its answer. Takes a plane of four pages for each router, a page for each further page of a
+/// router that is in memory, 8 bytes for each line of a segment from its first archival on, what the flood takes during a
+/// query, and what the report is longer than the room.
 pub fn replay_alone<H: Shelf>(
     alloc: Global,
     trace: &Trace,
     shelf: &mut H,
     yard: &mut Yard,
+    room: Vec<u8>,
 ) -> Result<Replayed, NoMemory>
     requires sound { IsSound trace.now }
     requires empty { yard.old ≡ [] }
@@ -160,6 +163,7 @@ pub fn replay_alone<H: Shelf>(
         shelf,
         &planes,
         &mut agents,
+        room,
     )?;
     *yard = Yard { planes, agents };
     Ok(Replayed {

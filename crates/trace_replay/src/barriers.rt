@@ -4,16 +4,16 @@ ghost use Rattle.std.specs.List.{All, flat_map};
 ghost use Rattle.report_text.specs.declared.Item.TheVariants.{Left};
 ghost use Rattle.report_text.specs.Report.{item_text};
 ghost use Rattle.router_account.specs.Account.{below};
-ghost use Rattle.trace_history.specs.Report.{left_items, watch_item, closing_items};
+ghost use Rattle.trace_history.specs.Report.{left_items, closing_items};
 ghost use Rattle.data_agent.specs.Calls.{closing_of};
 ghost use Rattle.trace_replay.specs.Barriers.{closed_of};
 ghost use Rattle.trace_replay.specs.Printing.{AddsItems, splits_of, lefts_of, IsAnswerNamed, archived_item};
 ghost use Rattle.trace_replay.specs.Segments.{item_by, numbered, pending_items};
 
+use crate::printing::push_plain;
 use crate::state::Answer;
 use data_agent::{Archived, Barrier, Closed};
-use report_text::{Item, push_entered, push_item};
-use router_account::Watch;
+use report_text::{Item, push_item};
 use spie_base::{List, NoMemory, PageNo, RouterId};
 use std::alloc::Global;
 use topology::Topology;
@@ -27,16 +27,6 @@ fn copied(alloc: Global, pages: &List<PageNo>) -> Result<List<PageNo>, NoMemory>
     ensures { IfOk result (λ copy. copy ≡ pages.now) }
 {
     Ok(List::of(Vec::from_slice(alloc, pages.items())?))
-}
-
-fn watched(line: u64, answer: Watch) -> Item
-    ensures { result ≡ watch_item line answer }
-{
-    match answer {
-        Watch::Seen => Item::Seen { line },
-        Watch::NotSeen => Item::NotSeen { line },
-        Watch::Unknown => Item::Unknown { line },
-    }
 }
 
 fn split(
@@ -63,26 +53,6 @@ fn split(
     })
 }
 
-fn answer_item(
-    alloc: Global,
-    line: u64,
-    answer: Answer,
-    barriers: &[Barrier],
-) -> Result<Item, NoMemory>
-    requires { IsAnswerNamed (length barriers.now) answer }
-    ensures { IfOk result (λ item. item ≡ item_by (splits_of barriers.now) line answer) }
-{
-    match answer {
-        Answer::Entered(page) => Ok(Item::Entered { line, page }),
-        Answer::Opened(page) => Ok(Item::Opened { line, page }),
-        Answer::Watched(answer) => Ok(watched(line, answer)),
-        Answer::Archived(router) => {
-            let barrier = &barriers[router.number as usize];
-            split(alloc, line, router, &barrier.archived)
-        }
-    }
-}
-
 fn push_one(
     alloc: Global,
     out: &mut Vec<u8>,
@@ -95,10 +65,11 @@ fn push_one(
     requires named { IsAnswerNamed (length topology.now.names) answer }
     ensures { OnOk result (out.new.items ≡ out.old.items ++ item_text topology.now.names (item_by (splits_of barriers.now) line answer)) }
 {
-    if let Answer::Entered(page) = answer {
-        return push_entered(out, line, page);
-    }
-    push_item(out, topology, &answer_item(alloc, line, answer, barriers)?)?;
+    let Answer::Archived(router) = answer else {
+        return push_plain(out, topology, line, answer);
+    };
+    let archived = &barriers[router.number as usize].archived;
+    push_item(out, topology, &split(alloc, line, router, archived)?)?;
     Ok(())
 }
 

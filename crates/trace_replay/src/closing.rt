@@ -26,7 +26,7 @@ use std::alloc::Global;
 use trace_format::{Line, Trace, What};
 use traceback_manager::trace as trace_flood;
 
-// The answers since the last barrier are printed, and the next segment begins behind the barrier's line.
+// The answers that waited for the barrier are printed, and the next segment begins behind the barrier's line.
 fn print_answers(
     alloc: Global,
     trace: &Trace,

@@ -17,10 +17,10 @@
 //!
 //! # Segment by segment
 //!
-//! How an archival splits its pages into those that are put and those that are kept is known at the next barrier alone.
-//! So the lines of a segment are answered into a list, and printed at the barrier that ends it: a tick, a query or the end.
-//! Until then all is said of every way in which the archivals may split, and at the barrier it is taken for the one that
-//! came.
+//! How an archival splits its pages into those that are put and those that are kept is known at the next barrier alone: a
+//! tick, a query or the end. So its line waits for the barrier, and each line behind it waits with it. One worker prints
+//! every other line as soon as it is done; several keep the answers of a whole segment for its barrier. Until then all is said
+//! of every way in which the archivals may split, and at the barrier it is taken for the one that came.
 //!
 //! One worker does the lines one after another, and each is right as it is done (`lines`). Several do a segment at once
 //! (`segment`): its receipts and watches are right as a whole, which `specs/Standing` says of the segment that has not ended, and
@@ -29,8 +29,8 @@
 //! # The barrier
 //!
 //! There each router's agent, in their order, finishes its archival, closes its page where a tick is due, and lets expired
-//! pages go. Then the segment's lines are printed, and the barrier's own. A query is answered behind that, once the agents were
-//! made ready for it.
+//! pages go. Then the lines that waited are printed, and the barrier's own. A query is answered behind that, once the agents
+//! were made ready for it.
 //!
 //! Read `yard` and `alone` first, then `state`, `lines` (within a segment), `agents` (all routers at a barrier), `closing`
 //! (barriers), `barriers`, `queries`, `printing` and `sights`; for several workers `segments` and `segment`.

@@ -1,5 +1,5 @@
 // The lines of a segment, one after another.
-ghost use Rattle.std.specs.Prelude.{◌≡◌, ◌<◌, true, false, OnOk, length, slice_get, Some};
+ghost use Rattle.std.specs.Prelude.{◌≡◌, ◌<◌, ◌^◌, true, false, OnOk, length, slice_get, Some};
 ghost use Rattle.trace_format.specs.declared.What.TheVariants.{Fwd, Xf, Rotate, Archive, Watch as WatchLine};
 ghost use Rattle.router_account.specs.Shelves.{ShelfView, view_of};
 ghost use Rattle.data_agent.specs.Standing.{StandsFor};
@@ -7,6 +7,7 @@ ghost use Rattle.trace_replay.specs.Segments.{is_barrier_line};
 ghost use Rattle.trace_replay.specs.Standing.{IsNext, Does, Adds};
 ghost use Rattle.trace_replay.specs.Yards.{AreBeside, by_workers};
 
+use crate::printing::push_plain;
 use crate::state::{Answer, State};
 use data_agent::Agent;
 use packet_signature::{Kind, row};
@@ -24,10 +25,18 @@ pub fn sig_of(trace: &Trace, packet: u32) -> Sig
     trace.sigs.items()[packet as usize]
 }
 
-fn answered(state: &mut State, answer: Answer) -> Result<(), NoMemory>
-    ensures { OnOk result (Adds state.old state.new answer) }
+// An answer is printed at once, but for an archival, whose split is known at the barrier, and what stands behind one.
+#[inline]
+fn answered(trace: &Trace, line: &Line, state: &mut State, answer: Answer) -> Result<(), NoMemory>
+    requires { state.old.first < 2 ^ 63 }
+    ensures { OnOk result (Adds trace.now line.now.number state.old state.new answer) }
 {
-    state.answers.push(answer)?;
+    if !state.answers.is_empty() || matches!(answer, Answer::Archived(_)) {
+        state.answers.push(answer)?;
+        return Ok(());
+    }
+    push_plain(&mut state.report, &trace.topology, line.number, answer)?;
+    state.first += 1;
     Ok(())
 }
 
@@ -50,7 +59,7 @@ fn forward(
     let sig = sig_of(trace, packet);
     let at = router.number as usize;
     let page = agents[at].forward(&planes[at], &sig);
-    answered(state, Answer::Entered(page))?;
+    answered(trace, line, state, Answer::Entered(page))?;
     Ok(())
 }
 
@@ -80,7 +89,7 @@ fn transform(
     let agent = &mut agents[at];
     let page = agent.forward(&planes[at], &sig);
     agent.transform(alloc, page, &row(kind, &before, &sig))?;
-    answered(state, Answer::Entered(page))?;
+    answered(trace, line, state, Answer::Entered(page))?;
     Ok(())
 }
 
@@ -102,7 +111,7 @@ fn rotate(
 {
     let at = router.number as usize;
     let page = agents[at].rotate_alone(alloc, &planes[at], state.clock)?;
-    answered(state, Answer::Opened(page))?;
+    answered(trace, line, state, Answer::Opened(page))?;
     Ok(())
 }
 
@@ -125,7 +134,7 @@ fn watch(
     let sig = sig_of(trace, packet);
     let at = router.number as usize;
     let seen = agents[at].watch(&planes[at], state.clock, &sig);
-    answered(state, Answer::Watched(seen))?;
+    answered(trace, line, state, Answer::Watched(seen))?;
     Ok(())
 }
 
@@ -150,7 +159,7 @@ fn archive<H: Shelf>(
 {
     let at = router.number as usize;
     agents[at].archive(alloc, &planes[at], shelf)?;
-    answered(state, Answer::Archived(router))?;
+    answered(trace, line, state, Answer::Archived(router))?;
     Ok(())
 }
 

@@ -139,6 +139,7 @@ fn replay_together<R: Threads + Wait + Sync, T: Turnstile, H: Shelf + Send>(
     yard: &mut Yard,
     workers: u32,
     turnstile: &T,
+    room: Vec<u8>,
 ) -> Result<Replayed, NoMemory>
     requires sound { IsSound trace.now }
     requires empty { yard.old ≡ [] }
@@ -151,7 +152,7 @@ fn replay_together<R: Threads + Wait + Sync, T: Turnstile, H: Shelf + Send>(
     let routers = trace.topology.routers();
     let (planes, mut agents) = open_all(alloc, &trace.rules, routers)?;
     let mut crew = crew_of(alloc, workers, routers)?;
-    let mut state = begun(alloc, trace)?;
+    let mut state = begun(alloc, trace, room)?;
     all_segments(
         rt,
         alloc,
@@ -174,10 +175,11 @@ fn replay_together<R: Threads + Wait + Sync, T: Turnstile, H: Shelf + Send>(
 /// Replays a trace with 1 to 16 workers over a shelf, segment by segment, on a plane for each router, and leaves these with their
 /// agents in the yard. With one worker it is `replay_alone`. With several, the records of a segment are dealt to the workers in
 /// turn, and the calling thread rotates, archives and watches beside them. The trace keeps to the rules on names, packets,
-/// numbers and times, as each trace that was read does.
+/// numbers and times, as each trace that was read does. The bytes in the room are dropped, and the report is written into its
+/// memory.
 ///
 /// Costs what `replay_alone` does, with the records of a segment shared among the workers. Takes beside its memory a pass for each
-/// worker at each router, and for each record of a segment its place and its page.
+/// worker at each router, for each line of a segment 8 bytes, and for each record of it its place and its page.
 pub fn replay<R: Threads + Wait + Sync, T: Turnstile, H: Shelf + Send>(
     rt: &R,
     alloc: Global,
@@ -186,6 +188,7 @@ pub fn replay<R: Threads + Wait + Sync, T: Turnstile, H: Shelf + Send>(
     yard: &mut Yard,
     workers: u32,
     turnstile: &T,
+    room: Vec<u8>,
 ) -> Result<Replayed, NoMemory>
     requires sound { IsSound trace.now }
     requires empty { yard.old ≡ [] }
@@ -196,7 +199,7 @@ pub fn replay<R: Threads + Wait + Sync, T: Turnstile, H: Shelf + Send>(
     ensures unopened { OnErr result (yard.new ≡ []) }
 {
     if workers == 1 {
-        return replay_alone(alloc, trace, shelf, yard);
+        return replay_alone(alloc, trace, shelf, yard, room);
     }
-    replay_together(rt, alloc, trace, shelf, yard, workers, turnstile)
+    replay_together(rt, alloc, trace, shelf, yard, workers, turnstile, room)
 }

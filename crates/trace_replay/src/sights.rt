@@ -79,7 +79,15 @@ pub fn sights_alone<'a, H: Shelf>(
     let lines = trace.lines.items();
     let (place, time) = find_query(lines, line);
     let (planes, mut agents) = open_all(alloc, &trace.rules, trace.topology.routers())?;
-    let state = replay_lines(alloc, trace, &lines[..place], shelf, &planes, &mut agents)?;
+    let state = replay_lines(
+        alloc,
+        trace,
+        &lines[..place],
+        shelf,
+        &planes,
+        &mut agents,
+        Vec::new(alloc),
+    )?;
     let _barriers = pass_all(alloc, shelf, state.clock, false, &planes, &mut agents)?;
     prepare_all(alloc, &planes, &mut agents)?;
     yard.planes = planes;

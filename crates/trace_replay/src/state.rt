@@ -15,14 +15,14 @@ pub enum Answer {
     Watched(Watch),
 }
 
-/// The clock, the answers since the last barrier, and the report up to it with its totals.
+/// The clock, the answers that are not printed yet, and the report up to them with its totals.
 #[derive(Drop)]
 pub struct State {
     /// The time of the last tick, or 0.
     pub clock: u64,
-    /// The place of the first line behind the last barrier, from 0.
+    /// The place of the first line whose answer is not printed, from 0.
     pub first: usize,
-    /// What the lines from there on were answered.
+    /// What the lines from there on were answered, up to the next barrier. With one worker the first is an archival.
     pub answers: Vec<Answer>,
     pub report: Vec<u8>,
     pub totals: Totals,

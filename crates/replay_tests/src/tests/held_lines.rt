@@ -106,7 +106,16 @@ fn overlap(rt: HostRuntime) -> Result<(), Fail> {
         held_in_vain: AtomicU64::new(0),
         right: AtomicU64::new(0),
     };
-    let replayed = replay(&rt, alloc, &trace, &mut shelf, &mut yard, 2, &turnstile)?;
+    let replayed = replay(
+        &rt,
+        alloc,
+        &trace,
+        &mut shelf,
+        &mut yard,
+        2,
+        &turnstile,
+        Vec::new(alloc),
+    )?;
     assert_eq!(rt; turnstile.held_in_vain.load(Ordering::SeqCst), 0);
     assert_eq!(rt; turnstile.right.load(Ordering::SeqCst), 5);
     assert_eq!(rt; yard.routers(), 3);
@@ -170,7 +179,16 @@ fn beside(rt: HostRuntime) -> Result<(), Fail> {
         recorded: AtomicU64::new(0),
         held_in_vain: AtomicU64::new(0),
     };
-    let replayed = replay(&rt, alloc, &trace, &mut shelf, &mut yard, 2, &turnstile)?;
+    let replayed = replay(
+        &rt,
+        alloc,
+        &trace,
+        &mut shelf,
+        &mut yard,
+        2,
+        &turnstile,
+        Vec::new(alloc),
+    )?;
     assert_eq!(rt; turnstile.held_in_vain.load(Ordering::SeqCst), 0);
     assert_eq!(rt;
         *replayed.report.items(),
@@ -189,8 +207,17 @@ fn one_worker(rt: HostRuntime) -> Result<(), Fail> {
     let mut shelf = MemShelf::new(alloc, &[])?;
     let mut yard = Yard::new(alloc)?;
     let mut other = Yard::new(alloc)?;
-    let replayed = replay(&rt, alloc, &trace, &mut shelf, &mut yard, 1, &Free)?;
-    let alone = replay_alone(alloc, &trace, &mut shelf, &mut other)?;
+    let replayed = replay(
+        &rt,
+        alloc,
+        &trace,
+        &mut shelf,
+        &mut yard,
+        1,
+        &Free,
+        Vec::new(alloc),
+    )?;
+    let alone = replay_alone(alloc, &trace, &mut shelf, &mut other, Vec::new(alloc))?;
     assert_eq!(rt; replayed, alone);
     Ok(())
 }

@@ -28,7 +28,16 @@ fn reported<R: Threads + Wait + Sync>(
 {
     let mut shelf = MemShelf::new(alloc, &[])?;
     let mut yard = Yard::new(alloc)?;
-    let replayed = replay(rt, alloc, trace, &mut shelf, &mut yard, workers, &Free)?;
+    let replayed = replay(
+        rt,
+        alloc,
+        trace,
+        &mut shelf,
+        &mut yard,
+        workers,
+        &Free,
+        Vec::new(alloc),
+    )?;
     Ok(replayed)
 }
 

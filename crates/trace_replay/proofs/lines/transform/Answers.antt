@@ -5,6 +5,7 @@ use Rattle.packet_signature.specs.declared.Row.{Row}
 use Rattle.page_catalogue.specs.Pages.{open_page}
 use Rattle.router_account.specs.Ledger.{recorded_in, changed_in}
 use Rattle.trace_replay.proofs.Needs.{change_stands, change_near, change_in}
+use Rattle.trace_replay.proofs.Closes.{first_fits}
 use Rattle.trace_replay.proofs.Within.{does_change}
 use Rattle.trace_replay.proofs.Beside.{own_at, beside_at}
 use Rattle.trace_replay.proofs.lines.transform.Goals as goal
@@ -36,3 +37,6 @@ forward-page-requires-clause-own c = own_at c.args.planes.now c.args.agents.now 
 
 pub returns-clause-beside : goal.returns-clause-beside
 returns-clause-beside c = beside_at c.args.planes.now c.args.agents.now c.args.router.number c.index-planes-at.result c.transform.new.self c.requires.beside (change_in (by_workers 1) StandsFor c.args.trace.now c.args.line.now c.args.agents.now c.index-agents-at.result c.args.state.now c.requires.ready.0 c.requires.ready.1 c.args.router c.args.kind c.args.old c.args.new c.requires.is) c.index-planes-at.is (c.transform.ensures.own c.index-planes-at.result c.forward-page.ensures.own)
+
+pub answered-requires : goal.answered-requires
+answered-requires c = first_fits (by_workers 1) StandsFor c.args.trace.now c.args.line.now c.args.agents.now c.args.state.now c.requires.ready.0 c.requires.ready.1
