@@ -28,7 +28,7 @@ use Rattle.data_agent.specs.Standing.{HasNotes, Stands, StandsWhole}
 use Rattle.data_agent.proofs.Alike.{stands_like}
 use Rattle.data_agent.proofs.Kept.{bits_text_kept, for_of}
 use Rattle.data_agent.proofs.Puts.{rose_then, rose_less}
-use Rattle.data_agent.proofs.Steps.{keeps_closing}
+use Rattle.data_agent.proofs.Closings.{keeps_closing}
 
 -- ---- a tick changes no record of a closed page
 

@@ -62,7 +62,6 @@ places_beside agent rules l u away s =
     let few = s.pages.few in
     let order = minding.order in
     record {
-      first = s.pages.first;
       exist = page ∙ sym (ap length s.pages.closings);
       few = omega arith;
       order = omega arith;
@@ -126,7 +125,6 @@ module _ (agent : Agent) (reads : List Probed) where
           few = p.few;
           page = p.page;
           entered = p.entered;
-          first = p.first;
           marked = p.marked;
           minding = minding_read (shape_of rules l.account.router) agent.keeper reads (standing agent) (length l.account.closings) p.minding;
           has = p.has;

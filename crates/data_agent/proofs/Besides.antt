@@ -119,7 +119,6 @@ pub record IsBesideSame (old new : Agent) : Type 0 where
   pub rules : new.rules ≡ old.rules
   pub router : new.router ≡ old.router
   pub page : new.page ≡ old.page
-  pub first : new.earliest ≡ old.earliest
   pub by_rules : new.catalogue.rules ≡ old.catalogue.rules
   pub closings : new.catalogue.closings ≡ old.catalogue.closings
   pub gone : new.catalogue.gone ≡ old.catalogue.gone
@@ -159,7 +158,6 @@ module _ (old new : Agent) (rules : Rules) (l : Ledger) (u : Unfinished) (away :
           few = p.few;
           page = ap (λ n. n.number) same.page ∙ p.page;
           entered = p.entered;
-          first = same.first ∙ p.first ∙ sym gone;
           marked = omega arith;
           minding = minding;
           has = subst (λ (es : List Entry). HaveSameMembers es l.account.entries) (sym words.entries) p.has;

@@ -25,7 +25,7 @@ use Rattle.data_agent.proofs.Alike.{not_noted, stands_like}
 use Rattle.data_agent.proofs.Kept.{held_true, knows_whole}
 use Rattle.data_agent.proofs.Members.{is_in-none}
 use Rattle.data_agent.proofs.Puts.{same_page}
-use Rattle.data_agent.proofs.Steps.{stands_same}
+use Rattle.data_agent.proofs.Staying.{stands_same}
 use Rattle.data_agent.proofs.Windows.{page_live}
 
 -- a bits record that was put, where the pages have these bits
@@ -90,7 +90,7 @@ notes_stand agent notes rules l u x z s none noted =
     let more : Unfinished = more_of (held_bits agent) notes.items in
     record {
       stands = stands_like new rules l l.put_before l.covered_before l.left_before (Some l.account.closings) (λ page. refl) (λ page. refl)
-          (stands_same agent new rules l s.stands refl refl refl refl refl refl refl refl refl refl refl refl);
+          (stands_same agent new rules l s.stands refl refl refl refl refl refl refl refl refl refl refl);
       noted = record {
         closed = omega arith;
         covers = λ page. (

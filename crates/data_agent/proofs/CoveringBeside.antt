@@ -45,7 +45,6 @@ knows_beside agent rules l u away s = record {
   router_fits = s.pages.router_fits;
   ascend = s.pages.times;
   times = record { rules_are = s.pages.rules_are; router = s.pages.router; closings = s.pages.closings; page = s.pages.page; few = s.pages.few };
-  first = s.pages.first;
   within = s.pages.minding.order;
   sized = λ page from to. sized_beside rules l.account agent.keeper.view.duties away.since page (is_in l.put_before page) (place_at agent page) (placed_beside agent rules l u away page s from to);
   to_come = λ page le. (s.to_come page le).unput;
@@ -114,7 +113,6 @@ module _ (agent : Agent) (notes : Vec Note Global) (x z : ShelfView) (none : age
           few = p.few;
           page = p.page;
           entered = p.entered;
-          first = p.first;
           marked = p.marked;
           minding = p.minding;
           has = p.has;

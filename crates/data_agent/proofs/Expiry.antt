@@ -25,7 +25,7 @@ use Rattle.data_agent.specs.Calls.{number_of}
 use Rattle.data_agent.specs.Expiring.{DiscardsOne, Discards, IsExpiredBy, covers_at, is_covered_in, expired_with}
 use Rattle.page_gate.specs.Held.{Held}
 use Rattle.spie_base.specs.Shapes.{shape_of}
-use Rattle.data_agent.proofs.Steps.{pages_with}
+use Rattle.data_agent.proofs.Staying.{pages_with}
 use Rattle.data_agent.specs.Standing.{AreClosed, IsClosed, IsKeeping, Stands, standing}
 use Rattle.data_agent.specs.Archiving.{some_page}
 use Rattle.data_agent.proofs.Passing.{none_rise}
@@ -120,11 +120,11 @@ rows_behind old new page put rows le = elim (cases_lt page old) [
 ]
 
 pub expired : (old new : Agent) (rules : Rules) (l : Ledger) (clock : ℕ) → Stands old rules l
-    → new.rules ≡ old.rules → new.router ≡ old.router → new.page ≡ old.page → new.earliest ≡ new.catalogue.gone → new.keeper ≡ old.keeper → new.marked ≡ old.marked → new.catalogue.rules ≡ old.catalogue.rules → new.catalogue.closings ≡ old.catalogue.closings → new.catalogue.clock ≡ clock
+    → new.rules ≡ old.rules → new.router ≡ old.router → new.page ≡ old.page → new.keeper ≡ old.keeper → new.marked ≡ old.marked → new.catalogue.rules ≡ old.catalogue.rules → new.catalogue.closings ≡ old.catalogue.closings → new.catalogue.clock ≡ clock
     → old.catalogue.gone ≤ new.catalogue.gone → new.catalogue.gone ≤ length old.catalogue.closings → AreExpired old.catalogue.rules old.catalogue.closings clock new.catalogue.gone
     → new.closed.items ≡ drop (new.catalogue.gone - old.catalogue.gone) old.closed.items
     → ((page : ℕ) → rows_of_page page new.table ≡ rows_outside old.catalogue.gone new.catalogue.gone page (rows_of_page page old.table)) → Stands new rules (expired_with l clock [])
-expired old new rules l clock s same_rules same_router page first keeper marked by closings at grown within exact items kept =
+expired old new rules l clock s same_rules same_router page keeper marked by closings at grown within exact items kept =
     let count : ℕ = new.catalogue.gone - old.catalogue.gone in
     let sum : old.catalogue.gone + count ≡ new.catalogue.gone = omega arith in
     let before : old.catalogue.gone + length old.closed.items ≡ length l.account.closings = s.count in
@@ -132,7 +132,7 @@ expired old new rules l clock s same_rules same_router page first keeper marked 
     let same : length old.catalogue.closings ≡ length l.account.closings = ap length s.pages.closings in
     let here : standing old ≡ standing new = omega arith in
     record {
-      pages = (let p = pages_with old new rules l.account s.pages same_rules same_router page first (let m = s.pages.marked in omega arith) by closings
+      pages = (let p = pages_with old new rules l.account s.pages same_rules same_router page (let m = s.pages.marked in omega arith) by closings
           (subst (λ (n : ℕ). IsKeeping (shape_of rules l.account.router) new.keeper l.account.entries n (length l.account.closings)) here (subst (λ (k : Held). IsKeeping (shape_of rules l.account.router) k l.account.entries (standing old) (length l.account.closings)) (sym keeper) s.pages.keeping)) in record {
             ranges = p.ranges;
             router_fits = p.router_fits;
@@ -144,7 +144,6 @@ expired old new rules l clock s same_rules same_router page first keeper marked 
             few = p.few;
             page = p.page;
             entered = p.entered;
-            first = p.first;
             marked = p.marked;
             keeping = p.keeping;
           });

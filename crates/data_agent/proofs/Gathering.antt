@@ -1,5 +1,5 @@
 -- What an agent stands for once it has taken in its passes.
-use Rattle.std.proofs.Common.{ℕ, Bool, true, ◌≡◌, ◌≤◌, ◌<◌, ◌+◌, ◌^◌, ◌∙◌, ◌∷◌, [], ◌++◌, ◌↔◌, lit<, List, length, get_or, map, flat_map, is_some, All, Option, Some, None, Vec, Global, sym, ap, subst, refl, arith, ⊎_elim}
+use Rattle.std.proofs.Common.{ℕ, Bool, true, ◌≡◌, ◌≤◌, ◌<◌, ◌+◌, ◌-◌, ◌^◌, ◌∙◌, ◌∷◌, [], ◌++◌, ◌↔◌, ◌⊎◌, lit<, List, length, get_or, map, flat_map, is_some, All, Option, Some, None, Vec, Global, sym, ap, subst, refl, arith, ⊎_elim}
 use mathlib.Core.Option.{some}
 use Rattle.std.specs.List.{Contains}
 use Rattle.std.proofs.lemmas.Bool.{cases_lt, false≢true}
@@ -37,7 +37,7 @@ use Rattle.data_agent.specs.declared.agent.Agent.{Agent}
 use Rattle.data_agent.specs.declared.archival.Note.{Note}
 use Rattle.data_agent.specs.declared.closed_page.Whereabouts.{Whereabouts}
 use Rattle.data_agent.specs.declared.closed_page.Whereabouts.TheVariants.{InMemory, OnShelf}
-use Rattle.data_agent.specs.Beside.{AreBitsBeside, AreFrom, AreRead, Away, HasNotesBeside, IsBitRead, IsPlacedBeside, IsPutDigest, StandsBeside}
+use Rattle.data_agent.specs.Beside.{AreBelow, AreBitsBeside, AreFrom, AreRead, Away, HasNotesBeside, IsBitRead, IsPlacedBeside, IsPutDigest, StandsBeside}
 use Rattle.data_agent.specs.Members.{HaveSameMembers}
 use Rattle.data_agent.specs.Standing.{AreClosed, HasNotes, IsBitsDigest, IsKeeping, IsPlaced, StandsFor, put_page, standing, digest_of}
 use Rattle.data_agent.proofs.Counts.{fill_most}
@@ -70,6 +70,15 @@ from_since since ps from rise entry has =
     let rises : IsRising pass.floor pass.entries = subst (λ (p : PassHeld). IsRising p.floor p.entries) is (rise i pass lt) in
     let high : pass.floor ≤ entry.page.number = rises.from_floor j entry (at_place pass.entries j entry within ∙ ap (λ (e : Entry). some e) at) in
     omega arith
+
+-- no entry of a pass is in this page or behind it
+below_each : (page : ℕ) (ps : List PassHeld) → All (λ (p : PassHeld). AreBelow page p.entries) ps → AreBelow page (flat_map (λ (p : PassHeld). p.entries) ps)
+below_each page ps below entry has =
+    let piece = from_flat_map (λ (p : PassHeld). p.entries) ps entry has in
+    let pass : PassHeld = piece.of in
+    let (i, lt, is) = piece.has in
+    let all : AreBelow page pass.entries = subst (λ (p : PassHeld). AreBelow page p.entries) is (below i pass lt) in
+    all entry piece.in_piece
 
 -- ---- the agent
 
@@ -123,6 +132,22 @@ module _ (old : Agent) (k : Held) (ps : List PassHeld) (rules : Rules) (l : Ledg
     λ has. ⊎_elim (λ mine. mine) (λ theirs. absurd (let f = from_since away.since ps from rise entry theirs in omega arith)) (Contains-append_cases l.account.entries more entry ((members entry).0 has)),
     λ has. (members entry).1 (Contains-append_left l.account.entries more entry has),
   ))
+
+  -- where no pass recorded in the open page it has the marks that it had
+  set_open : AreBelow last more → page_set rules b last ≡ page_set rules l.account last
+  set_open below = page_marks shape es l.account.entries last (λ entry at. (
+    λ has. ⊎_elim (λ mine. mine) (λ theirs. absurd (let f = below entry theirs in omega arith)) (Contains-append_cases l.account.entries more entry ((members entry).0 has)),
+    λ has. (members entry).1 (Contains-append_left l.account.entries more entry has),
+  ))
+
+  filled_then : (marked : ℕ) → (marked ≡ 2 ^ 32 - 1) ⊎ ((marked ≡ old.marked) × All (λ (p : PassHeld). AreBelow old.page.number p.entries) ps) → fill rules b last ≤ marked
+  filled_then marked = ⊎_elim
+      (λ most. let few : fill rules b last ≤ 2 ^ 16 = fill_most rules b last s.pages.ranges.n_most in omega arith)
+      (λ (same, below).
+      let low : AreBelow last more = subst (λ (n : ℕ). AreBelow n more) s.pages.page (below_each old.page.number ps below) in
+      let fill_same : fill rules b last ≡ fill rules l.account last = ap (λ (set : PageSet). length set.members) (set_open low) in
+      let bound = s.pages.marked in
+      omega arith)
 
   -- a collected page is below the next page
   collected_below : (page : ℕ) → IsCollected shape before page → page < k.view.duties.next
@@ -223,10 +248,10 @@ module _ (old : Agent) (k : Held) (ps : List PassHeld) (rules : Rules) (l : Ledg
     refused = h.refused;
   }
 
-  pub gathered_stands : k.view.duties.out ≡ 0 → StandsFor (record old { keeper = k; marked = 4294967295; copied = None }) rules (record l { account = b }) u
-  gathered_stands none =
+  pub gathered_stands : (marked : ℕ) → (marked ≡ 2 ^ 32 - 1) ⊎ ((marked ≡ old.marked) × All (λ (p : PassHeld). AreBelow old.page.number p.entries) ps) → k.view.duties.out ≡ 0
+      → StandsFor (record old { keeper = k; marked = marked; copied = None }) rules (record l { account = b }) u
+  gathered_stands marked bound none =
       let p = s.pages in
-      let most : fill rules b last ≤ 2 ^ 16 = fill_most rules b last p.ranges.n_most in
       record {
         amid = record {
           pages = record {
@@ -240,8 +265,7 @@ module _ (old : Agent) (k : Held) (ps : List PassHeld) (rules : Rules) (l : Ledg
             few = p.few;
             page = p.page;
             entered = entered_then;
-            first = p.first;
-            marked = omega arith;
+            marked = filled_then marked bound;
             keeping = keeping_then none;
           };
           closed = closed_then;

@@ -31,7 +31,10 @@ use Rattle.page_gate.specs.declared.settle.Settled.TheVariants as settled
 use Rattle.data_agent.specs.Beside.{IsMinding, KeepsWords}
 use Rattle.data_agent.specs.Members.{HaveSameMembers}
 use Rattle.data_agent.specs.Standing.{IsKeeping}
-use Rattle.data_agent.proofs.Minding.{collected_room, minded_collected, minded_probed, minded_settled, minded_stands, minded_turned, next_minded, some_waits, words_settled}
+use Rattle.data_agent.proofs.CollectedPages.{collected_room, minded_collected}
+use Rattle.data_agent.proofs.Minding.{minded_probed, minded_stands, next_minded, some_waits}
+use Rattle.data_agent.proofs.SettledPages.{minded_settled, words_settled}
+use Rattle.data_agent.proofs.TurnedPages.{minded_turned}
 use Rattle.data_agent.proofs.Results.{if_ok, on_ok, on_err_from}
 use Rattle.data_agent.proofs.SameMembers.{marked_members, members_from, members_more, same_members}
 

@@ -165,7 +165,6 @@ knows_of agent rules l s = record {
   router_fits = s.pages.router_fits;
   ascend = s.pages.times;
   times = times_of agent rules l.account s.pages;
-  first = s.pages.first;
   within = s.pages.keeping.order;
   sized = λ page from to. sized_place rules l.account page (is_in l.put_before page) (place_at agent page) (closed_amid agent rules l page s from to);
   to_come = λ page le. (s.to_come page le).unput;

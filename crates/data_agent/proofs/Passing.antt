@@ -20,7 +20,7 @@ use Rattle.router_account.specs.Ledger.{Ledger, Unfinished, turned_at}
 use Rattle.data_agent.specs.declared.agent.Agent.{Agent}
 use Rattle.data_agent.specs.Calls.{MayPass}
 use Rattle.data_agent.specs.Standing.{HasPages, IsKeeping, StandsFor, StandsWhole, StillWhole, standing}
-use Rattle.data_agent.proofs.Steps.{pages_with}
+use Rattle.data_agent.proofs.Staying.{pages_with}
 use Rattle.data_agent.specs.Passing.{IsDueBits, IsTicked, StandsForSame}
 
 -- ---- a tick
@@ -69,7 +69,7 @@ counted old keeper bits count kept rules l u s =
     let shape : shape_of rules l.account.router ≡ shape_of old.rules old.router.number = ap (λ (r : Rules). shape_of r l.account.router) (sym pages.rules_are) ∙ ap (λ (n : ℕ). shape_of old.rules n) (sym pages.router) in
     record {
       stands = record {
-        pages = pages_with old new rules l.account pages refl refl refl pages.first (omega arith) refl refl
+        pages = pages_with old new rules l.account pages refl refl refl (omega arith) refl refl
             (kept (shape_of rules l.account.router) l.account.entries (standing old) (length l.account.closings) shape pages.keeping);
         count = s.stands.count;
         closed = s.stands.closed;

@@ -37,7 +37,6 @@ places_amid agent rules l s =
     let order = keeping.order in
     let minding = minding_of shape agent.keeper l.account.entries (standing agent) last keeping in
     record {
-      first = s.pages.first;
       exist = page ∙ sym (ap length s.pages.closings);
       few = omega arith;
       order = omega arith;
@@ -56,7 +55,7 @@ before_of agent page collected is so = ltb-true page (standing agent) (sym is �
 pub places_noted : (a b : Agent) (reads : List Probed) → HasNoted a b reads → HasPlaces a → HasPlaces b
 places_noted a b reads noted s =
     let after : Agent = record a { keeper = probed_held a.keeper reads } in
-    let here : HasPlaces after = record { first = s.first; exist = s.exist; few = s.few; order = s.order; stand = s.stand; only = s.only } in
+    let here : HasPlaces after = record { exist = s.exist; few = s.few; order = s.order; stand = s.stand; only = s.only } in
     subst HasPlaces (sym noted) here
 
 -- ---- collected pages

@@ -24,7 +24,7 @@ use Rattle.data_agent.specs.Residents.{IsResident}
 use Rattle.data_agent.specs.Standing.{HasNotes, HasPages, IsKeeping, Stands, StandsAmid, StandsFor, StandsWhole, StillStands, StillWhole, standing}
 use Rattle.data_agent.specs.Watching.{shows_now}
 use Rattle.data_agent.proofs.SameMembers.{marked_members}
-use Rattle.data_agent.proofs.Steps.{amid_then}
+use Rattle.data_agent.proofs.Staying.{amid_then}
 
 -- ---- the agent's own plane
 
@@ -180,10 +180,10 @@ copied_bits plane agent keeper bits rules l u own s same told =
 
 -- the keeper noted reads, and the copy is another
 pub for_copied : (plane : PlaneId) (old new : Agent) (rules : Rules) (l : Ledger) (u : Unfinished) → IsOwnPlane plane old
-    → new.rules ≡ old.rules → new.router ≡ old.router → new.page ≡ old.page → new.earliest ≡ old.earliest → new.marked ≡ old.marked → new.closed.items ≡ old.closed.items → new.catalogue ≡ old.catalogue → new.table ≡ old.table → new.noted ≡ old.noted
+    → new.rules ≡ old.rules → new.router ≡ old.router → new.page ≡ old.page → new.marked ≡ old.marked → new.closed.items ≡ old.closed.items → new.catalogue ≡ old.catalogue → new.table ≡ old.table → new.noted ≡ old.noted
     → ((entries : List Entry) (first last : ℕ) → IsKeeping plane.shape old.keeper entries first last → IsKeeping plane.shape new.keeper entries first last) → StandsFor old rules l u → StandsFor new rules l u
-for_copied plane old new rules l u own same_rules router page first marked items catalogue table noted same s = record {
-  amid = amid_then old new rules l s.amid same_rules router page first marked items catalogue table (kept_then plane old rules l.account own s.amid.pages new.keeper same);
+for_copied plane old new rules l u own same_rules router page marked items catalogue table noted same s = record {
+  amid = amid_then old new rules l s.amid same_rules router page marked items catalogue table (kept_then plane old rules l.account own s.amid.pages new.keeper same);
   noted = subst (HasNotes rules l u l.closed_at_archive) (sym noted) s.noted;
 }
 

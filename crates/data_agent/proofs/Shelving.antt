@@ -17,7 +17,7 @@ use Rattle.data_agent.specs.declared.finishing.Settled.{Settled}
 use Rattle.data_agent.specs.Finishing.{covered_all, put_all, put_where, settled_all, settled_by, shelved_in}
 use Rattle.data_agent.specs.Standing.{AreClosed, AreDigests, IsClock, IsClosed, IsPlaced, Stands}
 use Rattle.data_agent.proofs.Rows.{rows_left, rows_without}
-use Rattle.data_agent.proofs.Steps.{pages_same}
+use Rattle.data_agent.proofs.Staying.{pages_same}
 
 -- a number in a list that has one more in front
 in_front : (page other : ℕ) (pages : List ℕ) (b : Bool) → (other == page) ≡ b → is_in (page ∷ pages) other ≡ (b || is_in pages other)
@@ -52,15 +52,15 @@ closed_shelved agent rules l page digests s from to is i d lt =
     ]
 
 pub shelved : (old new : Agent) (rules : Rules) (l : Ledger) (page : ℕ) (digests : Digests) → Stands old rules l → old.catalogue.gone ≤ page → page < old.page.number → AreDigests rules l.account page digests
-    → new.rules ≡ old.rules → new.router ≡ old.router → new.page ≡ old.page → new.earliest ≡ old.earliest → new.keeper ≡ old.keeper → new.marked ≡ old.marked → new.catalogue ≡ old.catalogue
+    → new.rules ≡ old.rules → new.router ≡ old.router → new.page ≡ old.page → new.keeper ≡ old.keeper → new.marked ≡ old.marked → new.catalogue ≡ old.catalogue
     → new.closed.items ≡ set old.closed.items (page - old.catalogue.gone) (on_shelf digests) → new.table ≡ without_page page old.table → Stands new rules (shelved_in l page)
-shelved old new rules l page digests s from to is same_rules same_router same_page first keeper marked catalogue items table =
+shelved old new rules l page digests s from to is same_rules same_router same_page keeper marked catalogue items table =
     let end : page < length l.account.closings = let e = s.pages.page in omega arith in
     let gone : new.catalogue.gone ≡ old.catalogue.gone = ap (λ (c : Catalogued). c.gone) catalogue in
     let len : length new.closed.items ≡ length old.closed.items = ap length items ∙ length-set old.closed.items (page - old.catalogue.gone) (on_shelf digests) in
     let before = s.count in
     record {
-      pages = pages_same old new rules l.account s.pages same_rules same_router same_page first keeper marked len
+      pages = pages_same old new rules l.account s.pages same_rules same_router same_page keeper marked len
           (ap (λ (c : Catalogued). c.rules) catalogue) (ap (λ (c : Catalogued). c.closings) catalogue) gone;
       count = omega arith;
       closed = subst (λ xs. AreClosed rules (shelved_in l page) new.catalogue.gone xs) (sym items)

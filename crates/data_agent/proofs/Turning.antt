@@ -26,7 +26,7 @@ use Rattle.data_agent.specs.Members.{HaveSameMembers}
 use Rattle.data_agent.specs.Standing.{AreTimes, noted_page, rows_kept, standing, digest_of}
 use Rattle.data_agent.proofs.Besides.{closed_known, put_known}
 use Rattle.data_agent.proofs.Kept.{Keeps, digests_kept, head_kept}
-use Rattle.data_agent.proofs.Steps.{closings_more, entered_more, fresh_fill, keeps_closing, times_more}
+use Rattle.data_agent.proofs.Closings.{closings_more, entered_more, fresh_fill, keeps_closing, times_more}
 
 -- ---- a closed page keeps its texts
 
@@ -88,7 +88,6 @@ pub record IsTurned (old new : Agent) (clock : ℕ) : Type 0 where
   pub gone : new.catalogue.gone ≡ old.catalogue.gone
   pub clock_is : new.catalogue.clock ≡ clock
   pub page : new.page.number ≡ length old.catalogue.closings + 1
-  pub first : new.earliest ≡ old.earliest
   pub marked : new.marked ≡ 0
   pub items : new.closed.items ≡ old.closed.items
   pub table : new.table ≡ old.table
@@ -126,7 +125,6 @@ turned_beside old new rules l u away clock s room times t words minding =
         few = omega arith;
         page = t.page ∙ ap (λ n. n + 1) same ∙ sym more;
         entered = entered_more a.entries (length a.closings) (length (a.closings ++ clock ∷ [])) (omega arith) p.entered;
-        first = t.first ∙ p.first ∙ sym gone;
         marked = omega arith;
         minding = subst (λ (n : ℕ). IsMinding (shape_of rules a.router) new.keeper n (length (a.closings ++ clock ∷ []))) here
             (subst (λ (n : ℕ). IsMinding (shape_of rules a.router) new.keeper (standing old) n) (sym more) minding);

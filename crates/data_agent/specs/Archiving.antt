@@ -28,12 +28,14 @@ use Rattle.data_agent.specs.Standing.{AreTimes, Stands, digest_of, noted_page, i
 
 -- the agent has a closed page of this number that has not expired
 abbrev pub HasClosed : Agent → (page : ℕ) → Type 0
-HasClosed agent page = (rules : Rules) × (l : Ledger) × Stands agent rules l × (agent.catalogue.gone ≤ page) × (page < agent.page.number)
+HasClosed agent page =
+    (rules : Rules) × (l : Ledger) × Stands agent rules l × (agent.catalogue.gone ≤ page) × (page < agent.page.number)
 
 -- what stays of an agent while its keeper settles and collects pages, and passes are out
 pub record StaysBeside (old new : Agent) : Type 0 where
   pub rest : IsRestSame old new
-  pub beside : (rules : Rules) (l : Ledger) (u : Unfinished) (away : Away) → StandsBeside old rules l u away → StandsBeside new rules l u away
+  pub beside : (rules : Rules) (l : Ledger) (u : Unfinished) (away : Away) → StandsBeside old rules l u away
+      → StandsBeside new rules l u away
   pub reads : KeepsReads old new
 
 -- ---- what is in memory
@@ -81,9 +83,9 @@ pub record KnowsPages (agent : Agent) (rules : Rules) (l : Ledger) : Type 0 wher
   pub router_fits : l.account.router < 64
   pub ascend : AreTimes l.account.closings
   pub times : KnowsTimes agent rules l.account
-  pub first : agent.earliest ≡ agent.catalogue.gone
   pub within : standing agent ≤ length l.account.closings
-  pub sized : (page : ℕ) → agent.catalogue.gone ≤ page → page < standing agent → IsSized rules (is_in l.put_before page) (place_at agent page)
+  pub sized : (page : ℕ) → agent.catalogue.gone ≤ page → page < standing agent
+      → IsSized rules (is_in l.put_before page) (place_at agent page)
   pub to_come : (page : ℕ) → standing agent ≤ page → is_in l.put_before page ≡ false
 
 -- ---- the puts
@@ -97,32 +99,41 @@ IsDigest text None = Unit {0}
 IsDigest text (Some digest) = digest ≡ sha256 text
 
 -- a closed page was noted, and where it is in memory its bits record was put; where it stands in a slot, that is deferred
-pub record IsNotedOnce (agent : Agent) (rules : Rules) (a : Account) (page : ℕ) (note : Note) (before after : ShelfView) : Type 0 where
+pub record IsNotedOnce (agent : Agent) (rules : Rules) (a : Account) (page : ℕ) (note : Note) (before after : ShelfView)
+    : Type 0 where
   pub page_is : note.page.number ≡ page
   pub digest : IsDigest (held_text agent rules a page) (digest_of note.bits)
   pub stored : is_stored note ≡ true → page < standing agent
   pub known : page < standing agent → is_deferred note ≡ false
   pub still : after.tells ≡ before.tells
   pub rose : RoseBy (count_if (is_refused note)) before.faults after.faults
-  pub stands : before.tells ≡ true → is_stored note ≡ true → after.contents (name_of a.router page Bits) ≡ Some (held_text agent rules a page)
+  pub stands : before.tells ≡ true → is_stored note ≡ true
+      → after.contents (name_of a.router page Bits) ≡ Some (held_text agent rules a page)
   pub same : before.tells ≡ true → is_stored note ≡ false → IsSame before.contents after.contents
-  pub others : before.tells ≡ true → (name : ShelfName) → (name ≡ name_of a.router page Bits → ⊥) → after.contents name ≡ before.contents name
+  pub others : before.tells ≡ true → (name : ShelfName) → (name ≡ name_of a.router page Bits → ⊥)
+      → after.contents name ≡ before.contents name
 
 -- a closed page is noted where it is not on the shelf
 abbrev pub NotesOne : Agent → Rules → Ledger → (page : ℕ) → Option Note → (before after : ShelfView) → Type 0
 NotesOne agent rules l page None before after = (is_in l.put_before page ≡ true) × (after ≡ before)
-NotesOne agent rules l page (Some note) before after = (is_in l.put_before page ≡ false) × IsNotedOnce agent rules l.account page note before after
+NotesOne agent rules l page (Some note) before after =
+    (is_in l.put_before page ≡ false) × IsNotedOnce agent rules l.account page note before after
 
 -- the pages from the first one on, and before another, are noted where they are not on the shelf
-pub record NotesTo (agent : Agent) (rules : Rules) (l : Ledger) (first bound : ℕ) (notes : List Note) (before after : ShelfView) : Type 0 where
-  pub covers : (page : ℕ) → Contains (map noted_page notes) page ↔ ((first ≤ page) × (page < bound) × (is_in l.put_before page ≡ false))
+pub record NotesTo (agent : Agent) (rules : Rules) (l : Ledger) (first bound : ℕ) (notes : List Note)
+    (before after : ShelfView) : Type 0 where
+  pub covers : (page : ℕ) → Contains (map noted_page notes) page
+      ↔ ((first ≤ page) × (page < bound) × (is_in l.put_before page ≡ false))
   pub rising : AreRising (map noted_page notes)
-  pub digests : (note : Note) → Contains notes note → IsDigest (held_text agent rules l.account note.page.number) (digest_of note.bits)
+  pub digests : (note : Note) → Contains notes note
+      → IsDigest (held_text agent rules l.account note.page.number) (digest_of note.bits)
   pub stored : (note : Note) → Contains notes note → is_stored note ≡ true → note.page.number < standing agent
   pub known : (note : Note) → Contains notes note → is_deferred note ≡ true → standing agent ≤ note.page.number
   pub still : after.tells ≡ before.tells
   pub rose : RoseBy (length (filter is_refused notes)) before.faults after.faults
   pub stand : before.tells ≡ true → (note : Note) → Contains notes note → is_stored note ≡ true
-      → after.contents (name_of l.account.router note.page.number Bits) ≡ Some (held_text agent rules l.account note.page.number)
-  pub others : before.tells ≡ true → (name : ShelfName) → ((page : ℕ) → Contains (map noted_page notes) page → name ≡ name_of l.account.router page Bits → ⊥)
+      → after.contents (name_of l.account.router note.page.number Bits)
+      ≡ Some (held_text agent rules l.account note.page.number)
+  pub others : before.tells ≡ true → (name : ShelfName)
+      → ((page : ℕ) → Contains (map noted_page notes) page → name ≡ name_of l.account.router page Bits → ⊥)
       → after.contents name ≡ before.contents name

@@ -62,7 +62,8 @@ pub record KeepsWords (shape : PageShape) (old new : Held) : Type 0 where
   pub entries : new.view.entries ≡ old.view.entries
   pub out : new.view.duties.out ≡ old.view.duties.out
   pub probes : new.view.duties.probes ≡ old.view.duties.probes
-  pub collected : (page : ℕ) → IsCollected shape old.view.duties page → collected_of new.view.duties page ≡ collected_of old.view.duties page
+  pub collected : (page : ℕ) → IsCollected shape old.view.duties page
+      → collected_of new.view.duties page ≡ collected_of old.view.duties page
 
 -- ---- the agent's pages
 
@@ -78,7 +79,6 @@ pub record HasPagesBeside (agent : Agent) (rules : Rules) (a : Account) (out : �
   pub few : length a.closings < 2 ^ 32 - 1
   pub page : agent.page.number ≡ length a.closings
   pub entered : All (λ entry. entry.page.number ≤ length a.closings) a.entries
-  pub first : agent.earliest ≡ agent.catalogue.gone
   pub marked : fill rules a (length a.closings) ≤ agent.marked
   pub minding : IsMinding (shape_of rules a.router) agent.keeper (standing agent) (length a.closings)
   pub has : HaveSameMembers agent.keeper.view.entries a.entries
@@ -116,7 +116,8 @@ AreClosedBeside rules l d since first pages =
 -- the bits that a record had when it was put are all bits of its page, as they are known
 abbrev pub ArePutBeside : Rules → Account → Duties → (since : ℕ) → Unfinished → Type 0
 ArePutBeside rules a d since u =
-    (x : PutBits) → Contains u.bits_put x → AreBitsBeside rules a d since x.page (record { n = rules.n; members = x.bits })
+    (x : PutBits) → Contains u.bits_put x
+    → AreBitsBeside rules a d since x.page (record { n = rules.n; members = x.bits })
 
 -- the digest of a record that was put with these bits of the page
 abbrev pub IsPutDigest : Rules → Account → Unfinished → (page : ℕ) → Option (List ℕ) → Type 0
@@ -125,7 +126,8 @@ IsPutDigest rules a u page (Some digest) =
     (x : PutBits) × Contains u.bits_put x × (x.page ≡ page) × (digest ≡ sha256 (bits_text rules a page x.bits))
 
 -- the notes of an archival that came when these pages had closed. Each has the digest of what was put, where it was put
-pub record AreNotesBeside (rules : Rules) (l : Ledger) (u : Unfinished) (closings : List ℕ) (notes : List Note) : Type 0 where
+pub record AreNotesBeside (rules : Rules) (l : Ledger) (u : Unfinished) (closings : List ℕ) (notes : List Note)
+    : Type 0 where
   pub closed : length closings ≤ length l.account.closings
   pub covers : (page : ℕ) → Contains (map noted_page notes) page ↔ IsCovered rules (archive_view l closings) page
   pub rising : AreRising (map noted_page notes)
@@ -160,7 +162,8 @@ meaning_beside agent away rules l u = StandsBeside agent rules l u away
 -- the bits records that the segment's archival put are of closed pages, and have their bits. Where no archival came there are none
 abbrev pub AreClosedBits : Rules → Ledger → Unfinished → Type 0
 AreClosedBits rules l u =
-    (x : PutBits) → Contains u.bits_put x → (x.page < length l.account.closings) × (x.bits ≡ bits rules l.account x.page)
+    (x : PutBits) → Contains u.bits_put x
+    → (x.page < length l.account.closings) × (x.bits ≡ bits rules l.account x.page)
 
 -- ---- passes
 
@@ -175,6 +178,10 @@ fresh_pass plane agent = record { table = plane.table; floor = agent.page.number
 -- no page of these passes' entries is below this one
 abbrev pub AreFrom : (since : ℕ) → List PassHeld → Type 0
 AreFrom since passes = All (λ (p : PassHeld). since ≤ p.floor) passes
+
+-- these entries are of pages before this one
+abbrev pub AreBelow : (page : ℕ) → List Entry → Type 0
+AreBelow page entries = (entry : Entry) → Contains entries entry → entry.page.number < page
 
 -- a ledger whose account has these entries too, in any order, and is the same in all else
 pub record IsGathered (l : Ledger) (more : List Entry) (after : Ledger) : Type 0 where

@@ -13,7 +13,9 @@ use Rattle.data_agent.specs.Standing.{StandsFor}
 
 -- an agent stands for a ledger, and maybe passes are out
 abbrev pub StandsAnyhow : Agent → Type 0
-StandsAnyhow agent = (rules : Rules) × (l : Ledger) × (u : Unfinished) × (StandsFor agent rules l u ⊎ ((away : Away) × StandsBeside agent rules l u away))
+StandsAnyhow agent =
+    (rules : Rules) × (l : Ledger) × (u : Unfinished)
+    × (StandsFor agent rules l u ⊎ ((away : Away) × StandsBeside agent rules l u away))
 
 -- a signature is seen in a page of the window that is not missing: the gathered entries show it there, or each of its marks was read
 -- there as set

@@ -50,7 +50,8 @@ MayTurn stands clock = (rules : Rules) × (l : Ledger) × (u : Unfinished) × st
 
 -- a barrier may come at this clock
 abbrev pub MayPass : Meaning → (clock : ℕ) → (tick : Bool) → Type 0
-MayPass stands clock tick = (rules : Rules) × (l : Ledger) × (u : Unfinished) × stands rules l u × IsLate l clock × (tick ≡ true → HasRoom l)
+MayPass stands clock tick =
+    (rules : Rules) × (l : Ledger) × (u : Unfinished) × stands rules l u × IsLate l clock × (tick ≡ true → HasRoom l)
 
 -- a query may be asked for this time
 abbrev pub MayAsk : Meaning → (time : ℕ) → Type 0
@@ -67,20 +68,30 @@ with_more u more = record { refused = u.refused + more.refused; bits_put = u.bit
 
 -- an archival was noted, and this came of its first puts
 pub record IsNoted (before after : Meaning) (more : Unfinished) (tells : Bool) (old new : Contents) : Type 0 where
-  pub noted : (rules : Rules) (l : Ledger) (u : Unfinished) → before rules l u → after rules (at_archive l) (with_more u more)
-  pub closed : (rules : Rules) (l : Ledger) (u : Unfinished) → before rules l u → (x : PutBits) → Contains more.bits_put x → x.page < length l.account.closings
+  pub noted : (rules : Rules) (l : Ledger) (u : Unfinished) → before rules l u
+      → after rules (at_archive l) (with_more u more)
+  pub closed : (rules : Rules) (l : Ledger) (u : Unfinished) → before rules l u → (x : PutBits)
+      → Contains more.bits_put x → x.page < length l.account.closings
   pub bits : (rules : Rules) (l : Ledger) (u : Unfinished) → before rules l u → ArePageBits rules l.account more
-  pub holds : (rules : Rules) (l : Ledger) (u : Unfinished) → before rules l u → tells ≡ true → Holds rules old l → Holds rules new l
-  pub holds_bits : (rules : Rules) (l : Ledger) (u : Unfinished) → before rules l u → tells ≡ true → Holds rules old l → HoldsBits rules new l.account more
-  pub others : (rules : Rules) (l : Ledger) (u : Unfinished) → before rules l u → tells ≡ true → KeepsOthers l.account.router old new
+  pub holds : (rules : Rules) (l : Ledger) (u : Unfinished) → before rules l u → tells ≡ true → Holds rules old l
+      → Holds rules new l
+  pub holds_bits : (rules : Rules) (l : Ledger) (u : Unfinished) → before rules l u → tells ≡ true → Holds rules old l
+      → HoldsBits rules new l.account more
+  pub others : (rules : Rules) (l : Ledger) (u : Unfinished) → before rules l u → tells ≡ true
+      → KeepsOthers l.account.router old new
 
 -- the same while passes are out. That what was put are the pages' bits is known once the passes are gathered
 pub record IsNotedBeside (before after : Meaning) (more : Unfinished) (tells : Bool) (old new : Contents) : Type 0 where
-  pub noted : (rules : Rules) (l : Ledger) (u : Unfinished) → before rules l u → after rules (at_archive l) (with_more u more)
-  pub closed : (rules : Rules) (l : Ledger) (u : Unfinished) → before rules l u → (x : PutBits) → Contains more.bits_put x → x.page < length l.account.closings
-  pub holds : (rules : Rules) (l : Ledger) (u : Unfinished) → before rules l u → tells ≡ true → Holds rules old l → Holds rules new l
-  pub holds_bits : (rules : Rules) (l : Ledger) (u : Unfinished) → before rules l u → tells ≡ true → Holds rules old l → HoldsBits rules new l.account more
-  pub others : (rules : Rules) (l : Ledger) (u : Unfinished) → before rules l u → tells ≡ true → KeepsOthers l.account.router old new
+  pub noted : (rules : Rules) (l : Ledger) (u : Unfinished) → before rules l u
+      → after rules (at_archive l) (with_more u more)
+  pub closed : (rules : Rules) (l : Ledger) (u : Unfinished) → before rules l u → (x : PutBits)
+      → Contains more.bits_put x → x.page < length l.account.closings
+  pub holds : (rules : Rules) (l : Ledger) (u : Unfinished) → before rules l u → tells ≡ true → Holds rules old l
+      → Holds rules new l
+  pub holds_bits : (rules : Rules) (l : Ledger) (u : Unfinished) → before rules l u → tells ≡ true → Holds rules old l
+      → HoldsBits rules new l.account more
+  pub others : (rules : Rules) (l : Ledger) (u : Unfinished) → before rules l u → tells ≡ true
+      → KeepsOthers l.account.router old new
 
 -- ---- a barrier
 
@@ -125,7 +136,8 @@ pub record IsSeen (rules : Rules) (l : Ledger) (time : ℕ) (shown : Shown) (tol
   pub read : IsRead rules l (window rules l.account time) told.reading
   pub digests : HaveDigests rules l.account told.reading
   pub hit : (sig : Sig) → shown.hit sig ≡ hit rules (sight_by rules l (window rules l.account time) told.reading) sig
-  pub origins : (sig old : Sig) → Contains (shown.origins sig) old ↔ Contains (origins (sight_by rules l (window rules l.account time) told.reading) sig) old
+  pub origins : (sig old : Sig) → Contains (shown.origins sig) old
+      ↔ Contains (origins (sight_by rules l (window rules l.account time) told.reading) sig) old
   pub missing : shown.missing ≡ (sight_by rules l (window rules l.account time) told.reading).missing
   pub expired_is : told.expired ≡ range_of (expired_by rules l (window rules l.account time))
   pub unreadable_is : told.unreadable ≡ map unreadable_of told.reading.unread

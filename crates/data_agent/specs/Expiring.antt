@@ -27,28 +27,36 @@ pub record DiscardsOne (router page : ℕ) (covered left : Bool) (before after :
   pub covers : left ≡ true → covered ≡ true
   pub still : after.tells ≡ before.tells
   pub rose : RoseBy (count_if left) before.faults after.faults
-  pub away : before.tells ≡ true → covered ≡ true → left ≡ false → (part : ShelfPart) → after.contents (name_of router page part) ≡ None
-  pub others : before.tells ≡ true → (name : ShelfName) → ((part : ShelfPart) → name ≡ name_of router page part → ⊥) → after.contents name ≡ before.contents name
+  pub away : before.tells ≡ true → covered ≡ true → left ≡ false → (part : ShelfPart)
+      → after.contents (name_of router page part) ≡ None
+  pub others : before.tells ≡ true → (name : ShelfName) → ((part : ShelfPart) → name ≡ name_of router page part → ⊥)
+      → after.contents name ≡ before.contents name
 
 -- and of those of the pages from the first one on, and before another
-pub record Discards (router : ℕ) (covers : ℕ → Bool) (first bound : ℕ) (left : List PageNo) (before after : ShelfView) : Type 0 where
+pub record Discards (router : ℕ) (covers : ℕ → Bool) (first bound : ℕ) (left : List PageNo) (before after : ShelfView)
+    : Type 0 where
   pub rising : AreRising (map number_of left)
   pub from : (page : ℕ) → Contains (map number_of left) page → first ≤ page
   pub to : (page : ℕ) → Contains (map number_of left) page → page < bound
   pub covered : (page : ℕ) → Contains (map number_of left) page → covers page ≡ true
   pub still : after.tells ≡ before.tells
   pub rose : RoseBy (length (map number_of left)) before.faults after.faults
-  pub away : before.tells ≡ true → (page : ℕ) → first ≤ page → page < bound → covers page ≡ true → (Contains (map number_of left) page → ⊥)
+  pub away : before.tells ≡ true → (page : ℕ) → first ≤ page → page < bound → covers page ≡ true
+      → (Contains (map number_of left) page → ⊥)
       → (part : ShelfPart) → after.contents (name_of router page part) ≡ None
-  pub others : before.tells ≡ true → (name : ShelfName) → ((page : ℕ) (part : ShelfPart) → first ≤ page → page < bound → name ≡ name_of router page part → ⊥)
+  pub others : before.tells ≡ true → (name : ShelfName)
+      → ((page : ℕ) (part : ShelfPart) → first ≤ page → page < bound → name ≡ name_of router page part → ⊥)
       → after.contents name ≡ before.contents name
 
 -- pages were expired at this clock, and of these a record was left
 abbrev pub expired_with : Ledger → (clock : ℕ) → (left : List ℕ) → Ledger
-expired_with l clock left = record l { closings_then = l.account.closings; clock_then = clock; left_before = left ++ l.left_before }
+expired_with l clock left =
+    record l { closings_then = l.account.closings; clock_then = clock; left_before = left ++ l.left_before }
 
-pub record IsExpiredBy (rules : Rules) (l : Ledger) (clock : ℕ) (left : List PageNo) (before after : ShelfView) : Type 0 where
+pub record IsExpiredBy (rules : Rules) (l : Ledger) (clock : ℕ) (left : List PageNo) (before after : ShelfView)
+    : Type 0 where
   pub left_are : AreLeft rules l (expired_with l clock (map number_of left)) (map number_of left)
   pub rose : RoseBy (length (map number_of left)) before.faults after.faults
-  pub holds : before.tells ≡ true → Holds rules before.contents l → Holds rules after.contents (expired_with l clock (map number_of left))
+  pub holds : before.tells ≡ true → Holds rules before.contents l
+      → Holds rules after.contents (expired_with l clock (map number_of left))
   pub others : before.tells ≡ true → KeepsOthers l.account.router before.contents after.contents

@@ -63,23 +63,30 @@ pub record PutsDeferred (rules : Rules) (a : Account) (note new : Note) (before 
   pub still : after.tells ≡ before.tells
   pub few : count_if (is_refused note) ≤ count_if (is_refused new)
   pub rose : RoseBy (count_if (is_refused new) - count_if (is_refused note)) before.faults after.faults
-  pub keeps : before.tells ≡ true → (page : ℕ) → HasBits rules a before.contents page → HasBits rules a after.contents page
-  pub stands : before.tells ≡ true → (is_stored note ≡ true → HasBits rules a before.contents note.page.number) → is_stored new ≡ true
+  pub keeps : before.tells ≡ true → (page : ℕ) → HasBits rules a before.contents page
+      → HasBits rules a after.contents page
+  pub stands : before.tells ≡ true → (is_stored note ≡ true → HasBits rules a before.contents note.page.number)
+      → is_stored new ≡ true
       → HasBits rules a after.contents new.page.number
-  pub others : before.tells ≡ true → (name : ShelfName) → (name ≡ name_of a.router note.page.number Bits → ⊥) → after.contents name ≡ before.contents name
+  pub others : before.tells ≡ true → (name : ShelfName) → (name ≡ name_of a.router note.page.number Bits → ⊥)
+      → after.contents name ≡ before.contents name
 
 -- and those of several
-pub record PutsAllDeferred (rules : Rules) (a : Account) (notes new : List Note) (before after : ShelfView) : Type 0 where
+pub record PutsAllDeferred (rules : Rules) (a : Account) (notes new : List Note) (before after : ShelfView)
+    : Type 0 where
   pub pages : map noted_page new ≡ map noted_page notes
   pub digests : (note : Note) → Contains new note → IsBitsDigest rules a note.page.number (digest_of note.bits)
   pub known : (note : Note) → Contains new note → is_deferred note ≡ false
   pub still : after.tells ≡ before.tells
   pub few : length (filter is_refused notes) ≤ length (filter is_refused new)
   pub rose : RoseBy (length (filter is_refused new) - length (filter is_refused notes)) before.faults after.faults
-  pub keeps : before.tells ≡ true → (page : ℕ) → HasBits rules a before.contents page → HasBits rules a after.contents page
-  pub stand : before.tells ≡ true → ((note : Note) → Contains notes note → is_stored note ≡ true → HasBits rules a before.contents note.page.number)
+  pub keeps : before.tells ≡ true → (page : ℕ) → HasBits rules a before.contents page
+      → HasBits rules a after.contents page
+  pub stand : before.tells ≡ true
+      → ((note : Note) → Contains notes note → is_stored note ≡ true → HasBits rules a before.contents note.page.number)
       → (note : Note) → Contains new note → is_stored note ≡ true → HasBits rules a after.contents note.page.number
-  pub others : before.tells ≡ true → (name : ShelfName) → ((page : ℕ) → Contains (map noted_page notes) page → name ≡ name_of a.router page Bits → ⊥)
+  pub others : before.tells ≡ true → (name : ShelfName)
+      → ((page : ℕ) → Contains (map noted_page notes) page → name ≡ name_of a.router page Bits → ⊥)
       → after.contents name ≡ before.contents name
 
 -- ---- the rows records
@@ -97,26 +104,32 @@ digests_with bits None = None
 digests_with bits (Some rows) = Some (record { bits = bits; rows = rows })
 
 -- what came of the rows record of one noted page
-pub record FinishesOne (rules : Rules) (a : Account) (note : Note) (one : Settled) (before after : ShelfView) : Type 0 where
+pub record FinishesOne (rules : Rules) (a : Account) (note : Note) (one : Settled) (before after : ShelfView)
+    : Type 0 where
   pub page : one.page ≡ note.page
   pub settled : IsSettled rules a one
   pub done : was_put one ≡ true → is_stored note ≡ true
   pub still : after.tells ≡ before.tells
   pub rose : RoseBy (count_if (was_kept one) - count_if (is_refused note)) before.faults after.faults
-  pub stands : before.tells ≡ true → was_put one ≡ true → after.contents (name_of a.router note.page.number Rows) ≡ Some (true_text rules a note.page.number Rows)
+  pub stands : before.tells ≡ true → was_put one ≡ true
+      → after.contents (name_of a.router note.page.number Rows) ≡ Some (true_text rules a note.page.number Rows)
   pub same : before.tells ≡ true → was_put one ≡ false → IsSame before.contents after.contents
-  pub others : before.tells ≡ true → (name : ShelfName) → (name ≡ name_of a.router note.page.number Rows → ⊥) → after.contents name ≡ before.contents name
+  pub others : before.tells ≡ true → (name : ShelfName) → (name ≡ name_of a.router note.page.number Rows → ⊥)
+      → after.contents name ≡ before.contents name
 
 -- and of several
-pub record FinishesTo (rules : Rules) (a : Account) (notes : List Note) (settled : List Settled) (before after : ShelfView) : Type 0 where
+pub record FinishesTo (rules : Rules) (a : Account) (notes : List Note) (settled : List Settled)
+    (before after : ShelfView) : Type 0 where
   pub pages : map settled_number settled ≡ map noted_page notes
   pub each : (one : Settled) → Contains settled one → IsSettled rules a one
   pub done : (page : ℕ) → Contains (numbers_put settled) page → Contains (numbers_done notes) page
   pub few : length (filter is_refused notes) ≤ length (filter was_kept settled)
   pub still : after.tells ≡ before.tells
   pub rose : RoseBy (length (filter was_kept settled) - length (filter is_refused notes)) before.faults after.faults
-  pub stand : before.tells ≡ true → (page : ℕ) → Contains (numbers_put settled) page → after.contents (name_of a.router page Rows) ≡ Some (true_text rules a page Rows)
-  pub others : before.tells ≡ true → (name : ShelfName) → ((page : ℕ) → Contains (map noted_page notes) page → name ≡ name_of a.router page Rows → ⊥)
+  pub stand : before.tells ≡ true → (page : ℕ) → Contains (numbers_put settled) page
+      → after.contents (name_of a.router page Rows) ≡ Some (true_text rules a page Rows)
+  pub others : before.tells ≡ true → (name : ShelfName)
+      → ((page : ℕ) → Contains (map noted_page notes) page → name ≡ name_of a.router page Rows → ⊥)
       → after.contents name ≡ before.contents name
 
 -- ---- the ledger behind them
@@ -133,7 +146,11 @@ put_where None page pages = pages
 put_where (Some d) page pages = page ∷ pages
 
 abbrev pub settled_by : Ledger → Settled → Ledger
-settled_by l one = record l { put_before = put_where one.digests one.page.number l.put_before; covered_before = one.page.number ∷ l.covered_before }
+settled_by l one =
+    record l {
+      put_before = put_where one.digests one.page.number l.put_before;
+      covered_before = one.page.number ∷ l.covered_before;
+    }
 
 -- and with all of them
 abbrev pub put_all : List ℕ → List Settled → List ℕ
@@ -145,7 +162,8 @@ covered_all pages [] = pages
 covered_all pages (one ∷ settled) = covered_all (one.page.number ∷ pages) settled
 
 abbrev pub settled_all : Ledger → List Settled → Ledger
-settled_all l settled = record l { put_before = put_all l.put_before settled; covered_before = covered_all l.covered_before settled }
+settled_all l settled =
+    record l { put_before = put_all l.put_before settled; covered_before = covered_all l.covered_before settled }
 
 abbrev pub finished_at : Ledger → Split → Ledger
 finished_at l split = record l {
@@ -155,11 +173,13 @@ finished_at l split = record l {
 }
 
 -- the segment's archival is finished, where one came
-pub record IsFinished (rules : Rules) (l : Ledger) (u : Unfinished) (archived : Option Archived) (agent : Agent) (before after : ShelfView) : Type 0 where
+pub record IsFinished (rules : Rules) (l : Ledger) (u : Unfinished) (archived : Option Archived) (agent : Agent)
+    (before after : ShelfView) : Type 0 where
   pub told : is_some archived ≡ is_some l.closed_at_archive
   pub split : IsSplitOf rules l (split_by archived)
   pub stands : StandsWhole agent rules (finished_at l (split_by archived)) nothing_unfinished
   pub rose : RoseBy (length (split_by archived).kept - u.refused) before.faults after.faults
-  pub holds : before.tells ≡ true → Holds rules before.contents l → HoldsBits rules before.contents l.account u → ArePageBits rules l.account u
+  pub holds : before.tells ≡ true → Holds rules before.contents l → HoldsBits rules before.contents l.account u
+      → ArePageBits rules l.account u
       → Holds rules after.contents (finished_at l (split_by archived))
   pub others : before.tells ≡ true → KeepsOthers l.account.router before.contents after.contents

@@ -13,7 +13,9 @@ use Rattle.data_agent.specs.Standing.{StandsFor}
 
 -- the keeper of an agent has the entries of each ledger for which the agent stands, in any order
 abbrev pub EntriesAre : Type 0
-EntriesAre = (agent : Agent) (rules : Rules) (l : Ledger) (u : Unfinished) → StandsFor agent rules l u → HaveSameMembers (entries_of agent) l.account.entries
+EntriesAre =
+    (agent : Agent) (rules : Rules) (l : Ledger) (u : Unfinished) → StandsFor agent rules l u
+    → HaveSameMembers (entries_of agent) l.account.entries
 
 -- each entry of such a ledger is in a page that was opened
 abbrev pub EntriesExist : Type 0

@@ -76,7 +76,8 @@ unread_in page (Unread cause) = Some (record { page = page; cause = cause })
 
 abbrev pub got_in : (page : ℕ) → Looked → Option GotPage
 got_in page (Borrowed r) = None
-got_in page (ReadBack p) = Some (record { page = page; held = record { bits = p.resident.page.members; rows = p.rows } })
+got_in page (ReadBack p) =
+    Some (record { page = page; held = record { bits = p.resident.page.members; rows = p.rows } })
 got_in page (Unread cause) = None
 
 abbrev pub reading_of : List Look → Reading
@@ -90,29 +91,38 @@ reading_of looks = record {
 -- a page was read back with the digests that were kept
 pub record IsReadPage (rules : Rules) (a : Account) (page : ℕ) (p : ReadPage) : Type 0 where
   pub family : p.resident.family.value ≡ family_of (shape_of rules a.router) page
-  pub digests : HasDigests rules a (record { page = page; held = record { bits = p.resident.page.members; rows = p.rows } })
+  pub digests : HasDigests rules a
+      (record { page = page; held = record { bits = p.resident.page.members; rows = p.rows } })
 
 -- and is what was recorded
 abbrev pub IsTruePage : Rules → Account → (page : ℕ) → ReadPage → Type 0
-IsTruePage rules a page p = (let h : Held = record { bits = p.resident.page.members; rows = p.rows } in h) ≡ held rules a page
+IsTruePage rules a page p =
+    (let h : Held = record { bits = p.resident.page.members; rows = p.rows } in h) ≡ held rules a page
 
 -- a page was read from the shelf, or could not be
 abbrev pub IsReadBack : Rules → Account → (page : ℕ) → (before after : ShelfView) → Looked → Type 0
 IsReadBack rules a page before after (Borrowed r) = ⊥
-IsReadBack rules a page before after (ReadBack p) = IsReadPage rules a page p × (AreTold rules a page before → IsTruePage rules a page p)
+IsReadBack rules a page before after (ReadBack p) =
+    IsReadPage rules a page p × (AreTold rules a page before → IsTruePage rules a page p)
 IsReadBack rules a page before after (Unread cause) = IsCause rules a page before after cause
 
 -- a page that was not put is borrowed, and each other one was read from the shelf
 abbrev pub IsLooked : Rules → Ledger → (page : ℕ) → (before after : ShelfView) → Looked → Type 0
-IsLooked rules l page before after (Borrowed r) = (is_in l.put_before page ≡ false) × IsResident rules l.account page r.now
-IsLooked rules l page before after (ReadBack p) = (is_in l.put_before page ≡ true) × IsReadBack rules l.account page before after (ReadBack p)
-IsLooked rules l page before after (Unread cause) = (is_in l.put_before page ≡ true) × IsReadBack rules l.account page before after (Unread cause)
+IsLooked rules l page before after (Borrowed r) =
+    (is_in l.put_before page ≡ false) × IsResident rules l.account page r.now
+IsLooked rules l page before after (ReadBack p) =
+    (is_in l.put_before page ≡ true) × IsReadBack rules l.account page before after (ReadBack p)
+IsLooked rules l page before after (Unread cause) =
+    (is_in l.put_before page ≡ true) × IsReadBack rules l.account page before after (Unread cause)
 
 -- what stays of that when the shelf is asked further: where it tells the true records, only faults make pages unreadable
 abbrev pub IsKnown : Rules → Ledger → (page : ℕ) → (before : ShelfView) → Looked → Type 0
 IsKnown rules l page before (Borrowed r) = (is_in l.put_before page ≡ false) × IsResident rules l.account page r.now
-IsKnown rules l page before (ReadBack p) = (is_in l.put_before page ≡ true) × IsReadPage rules l.account page p × (AreTold rules l.account page before → IsTruePage rules l.account page p)
-IsKnown rules l page before (Unread cause) = (is_in l.put_before page ≡ true) × (AreTold rules l.account page before → cause ≡ Failed)
+IsKnown rules l page before (ReadBack p) =
+    (is_in l.put_before page ≡ true) × IsReadPage rules l.account page p
+    × (AreTold rules l.account page before → IsTruePage rules l.account page p)
+IsKnown rules l page before (Unread cause) =
+    (is_in l.put_before page ≡ true) × (AreTold rules l.account page before → cause ≡ Failed)
 
 pub record IsLook (rules : Rules) (l : Ledger) (page : ℕ) (before : ShelfView) (look : Look) : Type 0 where
   pub page_is : look.page.number ≡ page
@@ -121,10 +131,12 @@ pub record IsLook (rules : Rules) (l : Ledger) (page : ℕ) (before : ShelfView)
 -- pages one behind the other, from a first one on
 abbrev pub AreLooks : Rules → Ledger → (before : ShelfView) → (first : ℕ) → List Look → Type 0
 AreLooks rules l before first [] = Unit {0}
-AreLooks rules l before first (look ∷ looks) = IsLook rules l first before look × AreLooks rules l before (first + 1) looks
+AreLooks rules l before first (look ∷ looks) =
+    IsLook rules l first before look × AreLooks rules l before (first + 1) looks
 
 -- so many of them
-pub record LooksTo (rules : Rules) (l : Ledger) (first count : ℕ) (looks : List Look) (before after : ShelfView) : Type 0 where
+pub record LooksTo (rules : Rules) (l : Ledger) (first count : ℕ) (looks : List Look) (before after : ShelfView)
+    : Type 0 where
   pub count_is : length looks ≡ count
   pub each : AreLooks rules l before first looks
   pub rose : RoseBy (failures (reading_of looks)) before.faults after.faults

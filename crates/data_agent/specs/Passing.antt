@@ -14,18 +14,22 @@ use Rattle.data_agent.specs.Standing.{StandsFor, StandsWhole}
 abbrev pub StandsForSame : Agent → Rules → Ledger → Type 0
 StandsForSame agent rules l =
     (after : Ledger) × (u : Unfinished) × StandsFor agent rules after u
-    × (after.account.router ≡ l.account.router) × (after.account.entries ≡ l.account.entries) × (after.account.rows ≡ l.account.rows)
+    × (after.account.router ≡ l.account.router) × (after.account.entries ≡ l.account.entries)
+    × (after.account.rows ≡ l.account.rows)
 
 -- how many bits the open page has, where a tick closes it
 abbrev pub IsDueBits : Rules → Account → (clock : ℕ) → Option ℕ → Type 0
 IsDueBits rules a clock None = is_due rules a.closings clock (fill rules a (open_page a.closings)) ≡ false
-IsDueBits rules a clock (Some bits) = (bits ≡ fill rules a (open_page a.closings)) × (is_due rules a.closings clock (fill rules a (open_page a.closings)) ≡ true)
+IsDueBits rules a clock (Some bits) =
+    (bits ≡ fill rules a (open_page a.closings))
+    × (is_due rules a.closings clock (fill rules a (open_page a.closings)) ≡ true)
 
 -- a tick, if it is one, closed what is due
 abbrev pub ticked_at : Rules → Ledger → (clock : ℕ) → (tick : Bool) → Ledger
 ticked_at rules l clock tick = record l { account = if tick then after_tick rules l.account clock else l.account }
 
 -- and the agent stands for that, and tells which page was closed
-pub record IsTicked (rules : Rules) (l : Ledger) (u : Unfinished) (clock : ℕ) (tick : Bool) (closed : Option Closed) (after : Agent) : Type 0 where
+pub record IsTicked (rules : Rules) (l : Ledger) (u : Unfinished) (clock : ℕ) (tick : Bool) (closed : Option Closed)
+    (after : Agent) : Type 0 where
   pub told : option_map closing_of closed ≡ closing_at rules l clock tick
   pub stands : StandsWhole after rules (ticked_at rules l clock tick) u

@@ -65,7 +65,8 @@ pub record IsPlaneSame (old new : Agent) : Type 0 where
 
 abbrev pub IsAmongDeferred : (page : ℕ) → Option (Vec Note Global) → Type 0
 IsAmongDeferred page None = ⊥
-IsAmongDeferred page (Some notes) = (note : Note) × Contains notes.items note × (note.page.number ≡ page) × (is_deferred note ≡ true)
+IsAmongDeferred page (Some notes) =
+    (note : Note) × Contains notes.items note × (note.page.number ≡ page) × (is_deferred note ≡ true)
 
 -- the segment's archival left it to the barrier to put the bits record of a page
 abbrev pub DefersPage : Agent → (page : ℕ) → Type 0

@@ -44,7 +44,8 @@ HasNoted old new reads = new ≡ record old { keeper = probed_held old.keeper re
 
 -- among these reads of an agent's keeper mark i of a signature in a page was read as set, or as not set
 abbrev pub HasRead : Agent → (reads : List Probed) → (page : ℕ) → Sig → (i : ℕ) → (bit : Bool) → Type 0
-HasRead agent reads page sig i bit = Contains reads (read_of (shape_of agent.rules agent.router.number) page sig (length (entries_of agent)) i bit)
+HasRead agent reads page sig i bit =
+    Contains reads (read_of (shape_of agent.rules agent.router.number) page sig (length (entries_of agent)) i bit)
 
 -- a page stands in a slot, and each mark of a signature was read as set there
 pub record IsReadSet (agent : Agent) (reads : List Probed) (page : ℕ) (sig : Sig) : Type 0 where
@@ -68,7 +69,8 @@ IsSeenIn agent reads page sig = ShowsInMemory agent page sig ⊎ IsReadSet agent
 pub record IsUnseenIn (agent : Agent) (reads : List Probed) (page : ℕ) (sig : Sig) : Type 0 where
   pub memory : ShowsInMemory agent page sig → ⊥
   pub slot : StandsInSlot agent page → IsReadUnset agent reads page sig
-  pub gathered : StandsInSlot agent page → HaveAllMarks (shape_of agent.rules agent.router.number) (entries_of agent) page sig → ⊥
+  pub gathered : StandsInSlot agent page
+      → HaveAllMarks (shape_of agent.rules agent.router.number) (entries_of agent) page sig → ⊥
 
 -- a signature is seen in one of the live pages
 pub record IsSeenOnce (agent : Agent) (reads : List Probed) (clock : ℕ) (sig : Sig) : Type 0 where

@@ -17,7 +17,8 @@ use Rattle.data_agent.specs.Looking.{look_shows, undone_by, reading_of}
 
 -- what the rows of the pages from the first to the last say that a signature was before
 abbrev pub undone_in : (first last : ℕ) → Sig → List (PageNo × Row) → List Sig
-undone_in first last sig pairs = map (λ pair. inverse_of pair.1 sig) (filter (λ pair. nat_le first pair.0.number && nat_le pair.0.number last) pairs)
+undone_in first last sig pairs =
+    map (λ pair. inverse_of pair.1 sig) (filter (λ pair. nat_le first pair.0.number && nat_le pair.0.number last) pairs)
 
 -- a signature put in order among others that are in order, once
 abbrev pub put_at : Ordering → Sig → Sig → (others with_it : List Sig) → List Sig
@@ -38,13 +39,22 @@ in_order (sig ∷ sigs) = put_in sig (in_order sigs)
 abbrev pub shown_by : Sight → Shown
 shown_by sight = record {
   hit = λ sig. list_any (λ look. look_shows look sig) sight.looks.items;
-  origins = λ sig. in_order (sig ∷ (undone_in sight.first sight.last sig (with_key (key_of sig) sight.rows.now) ++ flat_map (undone_by sig) sight.looks.items));
+  origins = λ sig. in_order (sig ∷ (undone_in sight.first sight.last sig (with_key (key_of sig) sight.rows.now)
+      ++ flat_map (undone_by sig) sight.looks.items));
   missing = is_some sight.expired || not (length sight.unreadable == 0);
 }
 
 abbrev pub told_by : Sight → Told
-told_by sight = record { expired = sight.expired; unreadable = sight.unreadable; used = sight.used; reading = reading_of sight.looks.items }
+told_by sight =
+    record {
+      expired = sight.expired;
+      unreadable = sight.unreadable;
+      used = sight.used;
+      reading = reading_of sight.looks.items;
+    }
 
 -- the pages from the first to the last of a window that are before another
 abbrev pub expired_in : (first last other : ℕ) → Option PageRange
-expired_in first last other = if nat_le other first then None else Some (record { first = record { number = first }; last = record { number = min last (other - 1) } })
+expired_in first last other =
+    if nat_le other first then None
+    else Some (record { first = record { number = first }; last = record { number = min last (other - 1) } })

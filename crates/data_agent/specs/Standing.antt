@@ -36,7 +36,8 @@ use Rattle.data_agent.specs.Residents.{IsResident}
 
 -- a clock that is not before the last barrier's and no closing's is not before the agent's
 abbrev pub IsClock : Ledger → (clock : ℕ) → Type 0
-IsClock l clock = (later : ℕ) → l.clock_then ≤ later → ((time : ℕ) → Contains l.account.closings time → time ≤ later) → clock ≤ later
+IsClock l clock =
+    (later : ℕ) → l.clock_then ≤ later → ((time : ℕ) → Contains l.account.closings time → time ≤ later) → clock ≤ later
 
 -- times of closings, which a record of a page can spell
 pub record AreTimes (closings : List ℕ) : Type 0 where
@@ -72,7 +73,6 @@ pub record HasPages (agent : Agent) (rules : Rules) (a : Account) : Type 0 where
   pub few : length a.closings < 2 ^ 32 - 1
   pub page : agent.page.number ≡ length a.closings
   pub entered : All (λ entry. entry.page.number ≤ length a.closings) a.entries
-  pub first : agent.earliest ≡ agent.catalogue.gone
   pub marked : fill rules a (length a.closings) ≤ agent.marked
   pub keeping : IsKeeping (shape_of rules a.router) agent.keeper a.entries (standing agent) (length a.closings)
 
@@ -94,7 +94,8 @@ pub record IsClosed (rules : Rules) (l : Ledger) (page : ℕ) (c : ClosedPage) :
 
 -- these pages, of which the first has this number
 abbrev pub AreClosed : Rules → Ledger → (first : ℕ) → List ClosedPage → Type 0
-AreClosed rules l first pages = (i : ℕ) (d : ClosedPage) → i < length pages → IsClosed rules l (first + i) (slice_index_or pages i d)
+AreClosed rules l first pages =
+    (i : ℕ) (d : ClosedPage) → i < length pages → IsClosed rules l (first + i) (slice_index_or pages i d)
 
 -- no archival covered a page that stands in a slot, or one to come
 pub record IsToCome (l : Ledger) (page : ℕ) : Type 0 where
@@ -210,4 +211,5 @@ abbrev pub StillStands : (old new : Agent) → Type 0
 StillStands old new = (rules : Rules) (l : Ledger) (u : Unfinished) → StandsFor old rules l u → StandsFor new rules l u
 
 abbrev pub StillWhole : (old new : Agent) → Type 0
-StillWhole old new = (rules : Rules) (l : Ledger) (u : Unfinished) → StandsWhole old rules l u → StandsWhole new rules l u
+StillWhole old new =
+    (rules : Rules) (l : Ledger) (u : Unfinished) → StandsWhole old rules l u → StandsWhole new rules l u

@@ -17,7 +17,6 @@ use Rattle.data_agent.specs.Standing.{standing}
 
 -- the pages of an agent are where it has them: collected ones in their places, and the others in slots
 pub record HasPlaces (agent : Agent) : Type 0 where
-  pub first : agent.earliest ≡ agent.catalogue.gone
   pub exist : agent.page.number ≡ length agent.catalogue.closings
   pub few : agent.page.number < 2 ^ 32 - 1
   pub order : standing agent ≤ agent.page.number
@@ -55,8 +54,10 @@ IsInWindow agent clock page = IsTrue (is_in_window agent.catalogue.rules agent.c
 -- what each answer of a watch tells of the agent's pages
 abbrev pub TellsWatch : Agent → (reads : List Probed) → (clock : ℕ) → Sig → Watch → Type 0
 TellsWatch agent reads clock sig Seen = IsSeenOnce agent reads clock sig
-TellsWatch agent reads clock sig Unknown = IsNeverSeen agent reads clock sig × ((page : ℕ) × IsInWindow agent clock page × IsAway agent page)
-TellsWatch agent reads clock sig NotSeen = IsNeverSeen agent reads clock sig × ((page : ℕ) → IsInWindow agent clock page → IsAway agent page → ⊥)
+TellsWatch agent reads clock sig Unknown =
+    IsNeverSeen agent reads clock sig × ((page : ℕ) × IsInWindow agent clock page × IsAway agent page)
+TellsWatch agent reads clock sig NotSeen =
+    IsNeverSeen agent reads clock sig × ((page : ℕ) → IsInWindow agent clock page → IsAway agent page → ⊥)
 
 -- whether a page is in memory and shows a signature
 abbrev pub shows_now : Rules → Ledger → Sig → (page : ℕ) → Bool

@@ -33,8 +33,6 @@ pub struct Agent {
     pub(crate) catalogue: Catalogue,
     // The open page.
     pub(crate) page: PageNo,
-    // The first page that has not expired.
-    pub(crate) earliest: u32,
     pub(crate) keeper: Keeper,
     // At least as many bits as are set in the open page.
     pub(crate) marked: u32,
@@ -101,7 +99,6 @@ impl Agent {
             router,
             catalogue: Catalogue::start(alloc, rules)?,
             page: PageNo { number: 0 },
-            earliest: 0,
             keeper,
             marked: 0,
             closed: VecDeque::new(alloc),
@@ -119,8 +116,10 @@ impl Agent {
         requires stands { (rules : TheRules) × (l : Ledger) × (u : Unfinished) × StandsFor self.old rules l u }
         ensures own { IsOwnPlane plane.now self.new }
         ensures entries { entries_of self.new ≡ entries_of self.old ++ record { page = result; sig = sig.now } ∷ [] }
-        ensures page { (rules : TheRules) (l : Ledger) (u : Unfinished) → StandsFor self.old rules l u → result.number ≡ open_page l.account.closings }
-        ensures recorded { (rules : TheRules) (l : Ledger) (u : Unfinished) → StandsFor self.old rules l u → StandsFor self.new rules (recorded_in l (open_page l.account.closings) sig.now) u }
+        ensures page { (rules : TheRules) (l : Ledger) (u : Unfinished) → StandsFor self.old rules l u
+            → result.number ≡ open_page l.account.closings }
+        ensures recorded { (rules : TheRules) (l : Ledger) (u : Unfinished) → StandsFor self.old rules l u
+            → StandsFor self.new rules (recorded_in l (open_page l.account.closings) sig.now) u }
     {
         let page = plane.record_alone(&mut self.keeper, sig);
         self.copied = None;
@@ -130,11 +129,14 @@ impl Agent {
 
     /// Adds the row of a transform whose packet was recorded in a page. Costs what the table of rows says of `add`.
     pub fn transform(&mut self, alloc: Global, page: PageNo, row: &Row) -> Result<(), NoMemory>
-        requires near { (rules : TheRules) × (l : Ledger) × (u : Unfinished) × StandsFor self.old rules l u × IsNear rules l page.number row.now }
+        requires near { (rules : TheRules) × (l : Ledger) × (u : Unfinished) × StandsFor self.old rules l u
+            × IsNear rules l page.number row.now }
         ensures own { (plane : PlaneId) → IsOwnPlane plane self.old → IsOwnPlane plane self.new }
         ensures entries { entries_of self.new ≡ entries_of self.old }
-        ensures changed { OnOk result ((rules : TheRules) (l : Ledger) (u : Unfinished) → StandsFor self.old rules l u → StandsFor self.new rules (changed_in l page.number row.now) u) }
-        ensures same { OnErr result ((rules : TheRules) (l : Ledger) (u : Unfinished) → StandsFor self.old rules l u → StandsFor self.new rules l u) }
+        ensures changed { OnOk result ((rules : TheRules) (l : Ledger) (u : Unfinished) → StandsFor self.old rules l u
+            → StandsFor self.new rules (changed_in l page.number row.now) u) }
+        ensures same { OnErr result ((rules : TheRules) (l : Ledger) (u : Unfinished) → StandsFor self.old rules l u
+            → StandsFor self.new rules l u) }
     {
         is_plain(row);
         self.table.add(alloc, page, row)

@@ -85,8 +85,10 @@ impl NotedBits {
 impl Agent {
     // What the bits record of a closed page says beside its bits.
     pub(crate) fn head(&self, page: PageNo) -> BitsHead
-        requires { (rules : TheRules) × (a : Account) × KnowsTimes self.now rules a × (page.number < self.now.page.number) }
-        ensures { (rules : TheRules) (a : Account) → KnowsTimes self.now rules a → page.number < self.now.page.number → result ≡ head_of rules a page.number }
+        requires { (rules : TheRules) × (a : Account) × KnowsTimes self.now rules a
+            × (page.number < self.now.page.number) }
+        ensures { (rules : TheRules) (a : Account) → KnowsTimes self.now rules a → page.number < self.now.page.number
+            → result ≡ head_of rules a page.number }
     {
         let row = self.catalogue.row(page);
         let Some(closed) = row.closed else {
@@ -104,11 +106,10 @@ impl Agent {
 
     // A page that was collected and has not expired, where it is in memory.
     fn held(&self, page: u32) -> Option<&Resident>
-        requires first { self.now.earliest ≡ self.now.catalogue.gone }
         requires near { (self.now.catalogue.gone ≤ page) × (page < standing self.now) }
         ensures { IsHeld (place_at self.now page) result }
     {
-        match &self.closed[(page - self.earliest) as usize].place {
+        match &self.closed[(page - self.first()) as usize].place {
             Whereabouts::InMemory(resident) => Some(resident),
             Whereabouts::OnShelf(_) => None,
         }
@@ -127,9 +128,10 @@ impl Agent {
         ensures still { H.tells shelf.new ≡ H.tells shelf.old }
         ensures noted { let before = view_of H.tells H.contents H.faults shelf.old in
             let after = view_of H.tells H.contents H.faults shelf.new in
-            IfOk result (λ note. (rules : TheRules) (l : Ledger) → KnowsPages self.now rules l → NotesOne self.now rules l page.number note before after) }
+            IfOk result (λ note. (rules : TheRules) (l : Ledger) → KnowsPages self.now rules l
+            → NotesOne self.now rules l page.number note before after) }
     {
-        if page.number >= self.earliest + self.closed.len() as u32 {
+        if page.number >= self.first() + self.closed.len() as u32 {
             return Ok(Some(Note {
                 page,
                 bits: NotedBits::Deferred,
@@ -157,8 +159,10 @@ impl Agent {
         ensures still { H.tells shelf.new ≡ H.tells shelf.old }
         ensures put { let before = view_of H.tells H.contents H.faults shelf.old in
             let after = view_of H.tells H.contents H.faults shelf.new in
-            IfOk result (λ new. (rules : TheRules) (l : Ledger) → Stands self.now rules l → is_in l.put_before note.now.page.number ≡ false
-            → IsBitsDigest rules l.account note.now.page.number (digest_of note.now.bits) → PutsDeferred rules l.account note.now new before after) }
+            IfOk result (λ new. (rules : TheRules) (l : Ledger) → Stands self.now rules l
+            → is_in l.put_before note.now.page.number ≡ false
+            → IsBitsDigest rules l.account note.now.page.number (digest_of note.now.bits)
+            → PutsDeferred rules l.account note.now new before after) }
     {
         if !note.bits.is_deferred() {
             return Ok(*note);
@@ -182,7 +186,9 @@ impl Agent {
         ensures put { let before = view_of H.tells H.contents H.faults shelf.old in
             let after = view_of H.tells H.contents H.faults shelf.new in
             IfOk result (λ new. (rules : TheRules) (l : Ledger) → Stands self.now rules l
-            → ((note : TheNote) → Contains notes.now note → (is_in l.put_before note.page.number ≡ false) × IsBitsDigest rules l.account note.page.number (digest_of note.bits))
+            → ((note : TheNote) → Contains notes.now note
+            → (is_in l.put_before note.page.number ≡ false)
+            × IsBitsDigest rules l.account note.page.number (digest_of note.bits))
             → PutsAllDeferred rules l.account notes.now new.items before after) }
     {
         let mut new = Vec::new(alloc);
@@ -203,7 +209,7 @@ impl Agent {
             → NotesTo self.now rules l self.now.catalogue.gone self.now.page.number notes.items before after) }
     {
         let mut notes = Vec::new(alloc);
-        'pages: for number in self.earliest..self.page.number {
+        'pages: for number in self.first()..self.page.number {
             if let Some(note) = self.note(alloc, shelf, PageNo { number })? {
                 notes.push(note)?;
             }
@@ -217,10 +223,14 @@ impl Agent {
         requires knows { (rules : TheRules) × (l : Ledger) × KnowsPages self.old rules l }
         ensures later { H.faults shelf.old ≤ H.faults shelf.new }
         ensures still { H.tells shelf.new ≡ H.tells shelf.old }
-        ensures noted { OnOk result ((more : Unfinished) × IsNoted (StandsWhole self.old) (StandsWhole self.new) more (H.tells shelf.old) (H.contents shelf.old) (H.contents shelf.new)
-            × ((away : Away) → IsNotedBeside (meaning_beside self.old away) (meaning_beside self.new away) more (H.tells shelf.old) (H.contents shelf.old) (H.contents shelf.new))
+        ensures noted { OnOk result ((more : Unfinished)
+            × IsNoted (StandsWhole self.old) (StandsWhole self.new) more (H.tells shelf.old) (H.contents shelf.old)
+            (H.contents shelf.new)
+            × ((away : Away) → IsNotedBeside (meaning_beside self.old away) (meaning_beside self.new away) more
+            (H.tells shelf.old) (H.contents shelf.old) (H.contents shelf.new))
             × RoseBy more.refused (H.faults shelf.old) (H.faults shelf.new)) }
-        ensures deferred { OnOk result ((page : ℕ) → DefersPage self.new page → (standing self.old ≤ page) × (page < self.old.page.number)) }
+        ensures deferred { OnOk result ((page : ℕ) → DefersPage self.new page
+            → (standing self.old ≤ page) × (page < self.old.page.number)) }
         ensures taken { AreTaken self.old → AreTaken self.new }
         ensures plane { IsPlaneSame self.old self.new }
         ensures same { OnErr result (self.new ≡ self.old) }
@@ -244,10 +254,13 @@ impl Agent {
         ensures entries { entries_of self.new ≡ entries_of self.old }
         ensures later { H.faults shelf.old ≤ H.faults shelf.new }
         ensures still { H.tells shelf.new ≡ H.tells shelf.old }
-        ensures noted { OnOk result ((more : Unfinished) × IsNoted (StandsFor self.old) (StandsFor self.new) more (H.tells shelf.old) (H.contents shelf.old) (H.contents shelf.new)
+        ensures noted { OnOk result ((more : Unfinished)
+            × IsNoted (StandsFor self.old) (StandsFor self.new) more (H.tells shelf.old) (H.contents shelf.old)
+            (H.contents shelf.new)
             × RoseBy more.refused (H.faults shelf.old) (H.faults shelf.new)) }
         ensures tried { OnOk result ((page : ℕ) → DefersPage self.new page → ⊥) }
-        ensures recorded { OnErr result ((rules : TheRules) (l : Ledger) (u : Unfinished) → StandsFor self.old rules l u → StandsForSame self.new rules l) }
+        ensures recorded { OnErr result ((rules : TheRules) (l : Ledger) (u : Unfinished) → StandsFor self.old rules l u
+            → StandsForSame self.new rules l) }
     {
         self.take_all(alloc, plane)?;
         self.note_closed(alloc, shelf)
@@ -256,7 +269,8 @@ impl Agent {
     // Looks once whether nobody is inside the page that stands in a slot longest.
     fn is_oldest_quiet(&mut self, plane: &Plane) -> bool
         requires own { IsOwnPlane plane.now self.old }
-        requires stands { (rules : TheRules) × (l : Ledger) × (u : Unfinished) × (away : Away) × StandsBeside self.old rules l u away × (standing self.old < self.old.page.number) }
+        requires stands { (rules : TheRules) × (l : Ledger) × (u : Unfinished) × (away : Away)
+            × StandsBeside self.old rules l u away × (standing self.old < self.old.page.number) }
         ensures own { IsOwnPlane plane.now self.new }
         ensures stays { StaysBeside self.old self.new }
         ensures standing { standing self.new ≡ standing self.old }
@@ -272,7 +286,8 @@ impl Agent {
     // Collects the closed pages that stand in slots, the oldest first, up to one in which somebody is inside.
     fn collect_quiet(&mut self, alloc: Global, plane: &Plane) -> Result<(), NoMemory>
         requires own { IsOwnPlane plane.now self.old }
-        requires stands { (rules : TheRules) × (l : Ledger) × (u : Unfinished) × (away : Away) × StandsBeside self.old rules l u away }
+        requires stands { (rules : TheRules) × (l : Ledger) × (u : Unfinished) × (away : Away)
+            × StandsBeside self.old rules l u away }
         ensures own { IsOwnPlane plane.now self.new }
         ensures stays { StaysBeside self.old self.new }
         ensures ends { OnOk result (AreTaken self.new ⊎ CountedSomebody self.new) }
@@ -304,11 +319,13 @@ impl Agent {
         ensures later { H.faults shelf.old ≤ H.faults shelf.new }
         ensures still { H.tells shelf.new ≡ H.tells shelf.old }
         ensures noted { OnOk result ((more : Unfinished)
-            × ((away : Away) → IsNotedBeside (meaning_beside self.old away) (meaning_beside self.new away) more (H.tells shelf.old) (H.contents shelf.old) (H.contents shelf.new))
+            × ((away : Away) → IsNotedBeside (meaning_beside self.old away) (meaning_beside self.new away) more
+            (H.tells shelf.old) (H.contents shelf.old) (H.contents shelf.new))
             × RoseBy more.refused (H.faults shelf.old) (H.faults shelf.new)) }
         ensures deferred { OnOk result ((page : ℕ) → DefersPage self.new page → StandsInSlot self.new page) }
         ensures inside { OnOk result (AreTaken self.new ⊎ CountedSomebody self.new) }
-        ensures same { OnErr result ((rules : TheRules) (l : Ledger) (u : Unfinished) (away : Away) → StandsBeside self.old rules l u away
+        ensures same { OnErr result ((rules : TheRules) (l : Ledger) (u : Unfinished) (away : Away)
+            → StandsBeside self.old rules l u away
             → StandsBeside self.new rules l u away) }
         ensures reads { KeepsReads self.old self.new }
     {

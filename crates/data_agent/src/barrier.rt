@@ -37,7 +37,8 @@ fn let_go(pages: &mut VecDeque<ClosedPage>, count: usize)
 fn drop_rows(table: &mut Table, pages: &PageRange)
     requires some { pages.now.first.number ≤ pages.now.last.number }
     ensures { (page : ℕ) → rows_of_page page table.new
-        ≡ (if nat_le pages.now.first.number page && nat_lt page (pages.now.last.number + 1) then [] else rows_of_page page table.old) }
+        ≡ (if nat_le pages.now.first.number page && nat_lt page (pages.now.last.number + 1) then []
+        else rows_of_page page table.old) }
 {
     'pages: for number in pages.first.number..pages.last.number {
         table.drop_page(PageNo { number });
@@ -82,7 +83,9 @@ fn discard_pages<H: Shelf>(
     ensures still { H.tells shelf.new ≡ H.tells shelf.old }
     ensures discarded { let before = view_of H.tells H.contents H.faults shelf.old in
         let after = view_of H.tells H.contents H.faults shelf.new in
-        IfOk result (λ left. Discards router.number (covers_at pages.now.first.number closed.now.items) pages.now.first.number (pages.now.last.number + 1) left.items before after) }
+        IfOk result (λ left. Discards router.number
+        (covers_at pages.now.first.number closed.now.items) pages.now.first.number
+        (pages.now.last.number + 1) left.items before after) }
 {
     let mut left = Vec::new(alloc);
     'pages: for number in pages.first.number..pages.last.number + 1 {
@@ -104,8 +107,10 @@ impl Agent {
         requires stands { (rules : TheRules) × (l : Ledger) × Stands self.old rules l }
         ensures own { IsOwnPlane plane.now self.new }
         ensures entries { entries_of self.new ≡ entries_of self.old }
-        ensures bits { (rules : TheRules) (l : Ledger) (u : Unfinished) → StandsWhole self.old rules l u → IsDueBits rules l.account clock result }
-        ensures same { (rules : TheRules) (l : Ledger) (u : Unfinished) → StandsWhole self.old rules l u → StandsWhole self.new rules l u }
+        ensures bits { (rules : TheRules) (l : Ledger) (u : Unfinished) → StandsWhole self.old rules l u
+            → IsDueBits rules l.account clock result }
+        ensures same { (rules : TheRules) (l : Ledger) (u : Unfinished) → StandsWhole self.old rules l u
+            → StandsWhole self.new rules l u }
         ensures rest { (self.new.catalogue ≡ self.old.catalogue) × (self.new.page ≡ self.old.page) }
     {
         if self.catalogue.due(clock, self.marked).is_none() {
@@ -125,8 +130,10 @@ impl Agent {
         requires ready { MayTurn (StandsWhole self.old) clock }
         ensures own { IsOwnPlane plane.now self.new }
         ensures entries { entries_of self.new ≡ entries_of self.old }
-        ensures turned { OnOk result ((rules : TheRules) (l : Ledger) (u : Unfinished) → StandsWhole self.old rules l u → StandsWhole self.new rules (turned_at l clock) u) }
-        ensures recorded { OnErr result ((rules : TheRules) (l : Ledger) (u : Unfinished) → StandsWhole self.old rules l u → StandsForSame self.new rules l) }
+        ensures turned { OnOk result ((rules : TheRules) (l : Ledger) (u : Unfinished) → StandsWhole self.old rules l u
+            → StandsWhole self.new rules (turned_at l clock) u) }
+        ensures recorded { OnErr result ((rules : TheRules) (l : Ledger) (u : Unfinished)
+            → StandsWhole self.old rules l u → StandsForSame self.new rules l) }
     {
         self.rotate_alone(alloc, plane, clock)?;
         self.take_all(alloc, plane)
@@ -144,9 +151,11 @@ impl Agent {
         requires ready { MayPass (StandsWhole self.old) clock tick }
         ensures own { IsOwnPlane plane.now self.new }
         ensures entries { entries_of self.new ≡ entries_of self.old }
-        ensures ticked { IfOk result (λ closed. (rules : TheRules) (l : Ledger) (u : Unfinished) → StandsWhole self.old rules l u → IsTicked rules l u clock tick closed self.new) }
+        ensures ticked { IfOk result (λ closed. (rules : TheRules) (l : Ledger) (u : Unfinished)
+            → StandsWhole self.old rules l u → IsTicked rules l u clock tick closed self.new) }
         ensures later { OnOk result (self.new.catalogue.clock ≤ clock) }
-        ensures recorded { OnErr result ((rules : TheRules) (l : Ledger) (u : Unfinished) → StandsWhole self.old rules l u → StandsForSame self.new rules l) }
+        ensures recorded { OnErr result ((rules : TheRules) (l : Ledger) (u : Unfinished)
+            → StandsWhole self.old rules l u → StandsForSame self.new rules l) }
     {
         if !tick {
             return Ok(None);
@@ -170,18 +179,19 @@ impl Agent {
         requires stands { (rules : TheRules) × (l : Ledger) × Stands self.old rules l }
         ensures later { H.faults shelf.old ≤ H.faults shelf.new }
         ensures still { H.tells shelf.new ≡ H.tells shelf.old }
-        ensures expired { (rules : TheRules) (l : Ledger) → Stands self.old rules l → Stands self.new rules (expired_with l clock []) }
+        ensures expired { (rules : TheRules) (l : Ledger) → Stands self.old rules l
+            → Stands self.new rules (expired_with l clock []) }
         ensures noted { self.new.noted ≡ self.old.noted }
         ensures plane { IsPlaneSame self.old self.new }
         ensures discarded { let before = view_of H.tells H.contents H.faults shelf.old in
             let after = view_of H.tells H.contents H.faults shelf.new in
-            IfOk result (λ left. (rules : TheRules) (l : Ledger) → Stands self.old rules l → IsExpiredBy rules l clock left.items before after) }
+            IfOk result (λ left. (rules : TheRules) (l : Ledger) → Stands self.old rules l
+            → IsExpiredBy rules l clock left.items before after) }
     {
         let Some(pages) = self.catalogue.expire(clock) else {
             return Ok(Vec::new(alloc));
         };
         let left = discard_pages(alloc, shelf, self.router, &pages, &self.closed);
-        self.earliest = pages.last.number + 1;
         let_go(
             &mut self.closed,
             (pages.last.number - pages.first.number) as usize + 1,
@@ -205,15 +215,24 @@ impl Agent {
         ensures entries { entries_of self.new ≡ entries_of self.old }
         ensures later { H.faults shelf.old ≤ H.faults shelf.new }
         ensures still { H.tells shelf.new ≡ H.tells shelf.old }
-        ensures told { IfOk result (λ b. (rules : TheRules) (l : Ledger) (u : Unfinished) → StandsWhole self.old rules l u → IsPassed rules l clock tick b) }
-        ensures passed { IfOk result (λ b. (rules : TheRules) (l : Ledger) (u : Unfinished) → StandsWhole self.old rules l u
-            → StandsWhole self.new rules (behind_barrier rules l clock tick (split_of b) (left_of b)) nothing_unfinished) }
-        ensures paid { IfOk result (λ b. (rules : TheRules) (l : Ledger) (u : Unfinished) → StandsWhole self.old rules l u → RoseBy (marks_of b - u.refused) (H.faults shelf.old) (H.faults shelf.new)) }
-        ensures holds { IfOk result (λ b. (rules : TheRules) (l : Ledger) (u : Unfinished) → StandsWhole self.old rules l u → H.tells shelf.old ≡ true
-            → Holds rules (H.contents shelf.old) l → HoldsBits rules (H.contents shelf.old) l.account u → ArePageBits rules l.account u
+        ensures told { IfOk result (λ b. (rules : TheRules) (l : Ledger) (u : Unfinished)
+            → StandsWhole self.old rules l u → IsPassed rules l clock tick b) }
+        ensures passed { IfOk result (λ b. (rules : TheRules) (l : Ledger) (u : Unfinished)
+            → StandsWhole self.old rules l u
+            → StandsWhole self.new rules (behind_barrier rules l clock tick (split_of b)
+            (left_of b)) nothing_unfinished) }
+        ensures paid { IfOk result (λ b. (rules : TheRules) (l : Ledger) (u : Unfinished)
+            → StandsWhole self.old rules l u
+            → RoseBy (marks_of b - u.refused) (H.faults shelf.old) (H.faults shelf.new)) }
+        ensures holds { IfOk result (λ b. (rules : TheRules) (l : Ledger) (u : Unfinished)
+            → StandsWhole self.old rules l u → H.tells shelf.old ≡ true
+            → Holds rules (H.contents shelf.old) l → HoldsBits rules (H.contents shelf.old) l.account u
+            → ArePageBits rules l.account u
             → Holds rules (H.contents shelf.new) (behind_barrier rules l clock tick (split_of b) (left_of b))) }
-        ensures others { OnOk result ((rules : TheRules) (l : Ledger) (u : Unfinished) → StandsWhole self.old rules l u → H.tells shelf.old ≡ true → KeepsOthers l.account.router (H.contents shelf.old) (H.contents shelf.new)) }
-        ensures recorded { OnErr result ((rules : TheRules) (l : Ledger) (u : Unfinished) → StandsWhole self.old rules l u → StandsForSame self.new rules l) }
+        ensures others { OnOk result ((rules : TheRules) (l : Ledger) (u : Unfinished) → StandsWhole self.old rules l u
+            → H.tells shelf.old ≡ true → KeepsOthers l.account.router (H.contents shelf.old) (H.contents shelf.new)) }
+        ensures recorded { OnErr result ((rules : TheRules) (l : Ledger) (u : Unfinished)
+            → StandsWhole self.old rules l u → StandsForSame self.new rules l) }
     {
         let archived = self.finish(alloc, shelf)?;
         let closed = self.close(alloc, plane, clock, tick)?;
@@ -244,15 +263,23 @@ impl Agent {
         ensures entries { entries_of self.new ≡ entries_of self.old }
         ensures later { H.faults shelf.old ≤ H.faults shelf.new }
         ensures still { H.tells shelf.new ≡ H.tells shelf.old }
-        ensures told { IfOk result (λ b. (rules : TheRules) (l : Ledger) (u : Unfinished) → StandsFor self.old rules l u → IsPassed rules l clock tick b) }
-        ensures passed { IfOk result (λ b. (rules : TheRules) (l : Ledger) (u : Unfinished) → StandsFor self.old rules l u
-            → StandsFor self.new rules (behind_barrier rules l clock tick (split_of b) (left_of b)) nothing_unfinished) }
-        ensures paid { IfOk result (λ b. (rules : TheRules) (l : Ledger) (u : Unfinished) → StandsFor self.old rules l u → RoseBy (marks_of b - u.refused) (H.faults shelf.old) (H.faults shelf.new)) }
-        ensures holds { IfOk result (λ b. (rules : TheRules) (l : Ledger) (u : Unfinished) → StandsFor self.old rules l u → H.tells shelf.old ≡ true
-            → Holds rules (H.contents shelf.old) l → HoldsBits rules (H.contents shelf.old) l.account u → ArePageBits rules l.account u
+        ensures told { IfOk result (λ b. (rules : TheRules) (l : Ledger) (u : Unfinished) → StandsFor self.old rules l u
+            → IsPassed rules l clock tick b) }
+        ensures passed { IfOk result (λ b. (rules : TheRules) (l : Ledger) (u : Unfinished)
+            → StandsFor self.old rules l u
+            → StandsFor self.new rules (behind_barrier rules l clock tick (split_of b)
+            (left_of b)) nothing_unfinished) }
+        ensures paid { IfOk result (λ b. (rules : TheRules) (l : Ledger) (u : Unfinished) → StandsFor self.old rules l u
+            → RoseBy (marks_of b - u.refused) (H.faults shelf.old) (H.faults shelf.new)) }
+        ensures holds { IfOk result (λ b. (rules : TheRules) (l : Ledger) (u : Unfinished)
+            → StandsFor self.old rules l u → H.tells shelf.old ≡ true
+            → Holds rules (H.contents shelf.old) l → HoldsBits rules (H.contents shelf.old) l.account u
+            → ArePageBits rules l.account u
             → Holds rules (H.contents shelf.new) (behind_barrier rules l clock tick (split_of b) (left_of b))) }
-        ensures others { OnOk result ((rules : TheRules) (l : Ledger) (u : Unfinished) → StandsFor self.old rules l u → H.tells shelf.old ≡ true → KeepsOthers l.account.router (H.contents shelf.old) (H.contents shelf.new)) }
-        ensures recorded { OnErr result ((rules : TheRules) (l : Ledger) (u : Unfinished) → StandsFor self.old rules l u → StandsForSame self.new rules l) }
+        ensures others { OnOk result ((rules : TheRules) (l : Ledger) (u : Unfinished) → StandsFor self.old rules l u
+            → H.tells shelf.old ≡ true → KeepsOthers l.account.router (H.contents shelf.old) (H.contents shelf.new)) }
+        ensures recorded { OnErr result ((rules : TheRules) (l : Ledger) (u : Unfinished) → StandsFor self.old rules l u
+            → StandsForSame self.new rules l) }
     {
         self.take_all(alloc, plane)?;
         self.pass(alloc, plane, shelf, clock, tick)

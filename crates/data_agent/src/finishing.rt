@@ -86,8 +86,10 @@ impl Agent {
         ensures still { H.tells shelf.new ≡ H.tells shelf.old }
         ensures finished { let before = view_of H.tells H.contents H.faults shelf.old in
             let after = view_of H.tells H.contents H.faults shelf.new in
-            IfOk result (λ settled. (rules : TheRules) (l : Ledger) → Stands self.now rules l → is_in l.put_before note.now.page.number ≡ false
-            → IsBitsDigest rules l.account note.now.page.number (digest_of note.now.bits) → is_deferred note.now ≡ false → FinishesOne rules l.account note.now settled before after) }
+            IfOk result (λ settled. (rules : TheRules) (l : Ledger) → Stands self.now rules l
+            → is_in l.put_before note.now.page.number ≡ false
+            → IsBitsDigest rules l.account note.now.page.number (digest_of note.now.bits) → is_deferred note.now ≡ false
+            → FinishesOne rules l.account note.now settled before after) }
     {
         let Some(bits) = note.bits.digest() else {
             return Ok(Settled {
@@ -127,8 +129,10 @@ impl Agent {
     // A page leaves memory, of which both records were put.
     fn shelve(&mut self, page: PageNo, digests: Digests)
         requires closed { HasClosed self.old page.number }
-        ensures shelved { (rules : TheRules) (l : Ledger) → Stands self.old rules l → AreDigests rules l.account page.number digests → Stands self.new rules (shelved_in l page.number) }
-        ensures rest { (self.new.catalogue ≡ self.old.catalogue) × (self.new.page ≡ self.old.page) × (self.new.noted ≡ self.old.noted) }
+        ensures shelved { (rules : TheRules) (l : Ledger) → Stands self.old rules l
+            → AreDigests rules l.account page.number digests → Stands self.new rules (shelved_in l page.number) }
+        ensures rest { (self.new.catalogue ≡ self.old.catalogue) × (self.new.page ≡ self.old.page)
+            × (self.new.noted ≡ self.old.noted) }
         ensures plane { IsPlaneSame self.old self.new }
     {
         let at = (page.number - self.first()) as usize;
@@ -142,8 +146,10 @@ impl Agent {
     // A page stays in memory that an archival covered.
     fn cover(&mut self, page: PageNo)
         requires closed { HasClosed self.old page.number }
-        ensures covered { (rules : TheRules) (l : Ledger) → Stands self.old rules l → Stands self.new rules (covered_in l page.number) }
-        ensures rest { (self.new.catalogue ≡ self.old.catalogue) × (self.new.page ≡ self.old.page) × (self.new.noted ≡ self.old.noted) }
+        ensures covered { (rules : TheRules) (l : Ledger) → Stands self.old rules l
+            → Stands self.new rules (covered_in l page.number) }
+        ensures rest { (self.new.catalogue ≡ self.old.catalogue) × (self.new.page ≡ self.old.page)
+            × (self.new.noted ≡ self.old.noted) }
         ensures plane { IsPlaneSame self.old self.new }
     {
         let at = (page.number - self.first()) as usize;
@@ -153,8 +159,10 @@ impl Agent {
     // What became of a page that the archival covers takes effect.
     fn settle_one(&mut self, settled: &Settled)
         requires closed { HasClosed self.old settled.now.page.number }
-        ensures settled { (rules : TheRules) (l : Ledger) → Stands self.old rules l → IsSettled rules l.account settled.now → Stands self.new rules (settled_by l settled.now) }
-        ensures rest { (self.new.catalogue ≡ self.old.catalogue) × (self.new.page ≡ self.old.page) × (self.new.noted ≡ self.old.noted) }
+        ensures settled { (rules : TheRules) (l : Ledger) → Stands self.old rules l
+            → IsSettled rules l.account settled.now → Stands self.new rules (settled_by l settled.now) }
+        ensures rest { (self.new.catalogue ≡ self.old.catalogue) × (self.new.page ≡ self.old.page)
+            × (self.new.noted ≡ self.old.noted) }
         ensures plane { IsPlaneSame self.old self.new }
     {
         match settled.digests {
@@ -166,10 +174,14 @@ impl Agent {
     // The same, of all of them.
     fn settle(&mut self, settled: &[Settled])
         requires ready { (rules : TheRules) × (l : Ledger) × Stands self.old rules l
-            × ((one : TheSettled) → Contains settled.now one → IsSettled rules l.account one × (self.old.catalogue.gone ≤ one.page.number) × (one.page.number < self.old.page.number)) }
-        ensures settled { (rules : TheRules) (l : Ledger) → Stands self.old rules l → ((one : TheSettled) → Contains settled.now one → IsSettled rules l.account one)
+            × ((one : TheSettled) → Contains settled.now one
+            → IsSettled rules l.account one × (self.old.catalogue.gone ≤ one.page.number)
+            × (one.page.number < self.old.page.number)) }
+        ensures settled { (rules : TheRules) (l : Ledger) → Stands self.old rules l
+            → ((one : TheSettled) → Contains settled.now one → IsSettled rules l.account one)
             → Stands self.new rules (settled_all l settled.now) }
-        ensures rest { (self.new.catalogue ≡ self.old.catalogue) × (self.new.page ≡ self.old.page) × (self.new.noted ≡ self.old.noted) }
+        ensures rest { (self.new.catalogue ≡ self.old.catalogue) × (self.new.page ≡ self.old.page)
+            × (self.new.noted ≡ self.old.noted) }
         ensures plane { IsPlaneSame self.old self.new }
     {
         for one in settled {
@@ -188,10 +200,12 @@ impl Agent {
         ensures still { H.tells shelf.new ≡ H.tells shelf.old }
         ensures finished { let before = view_of H.tells H.contents H.faults shelf.old in
             let after = view_of H.tells H.contents H.faults shelf.new in
-            IfOk result (λ archived. (rules : TheRules) (l : Ledger) (u : Unfinished) → StandsWhole self.old rules l u → IsFinished rules l u archived self.new before after) }
+            IfOk result (λ archived. (rules : TheRules) (l : Ledger) (u : Unfinished) → StandsWhole self.old rules l u
+            → IsFinished rules l u archived self.new before after) }
         ensures rest { self.new.catalogue ≡ self.old.catalogue }
         ensures plane { IsPlaneSame self.old self.new }
-        ensures same { OnErr result ((rules : TheRules) (l : Ledger) (u : Unfinished) → StandsWhole self.old rules l u → StandsWhole self.new rules l u) }
+        ensures same { OnErr result ((rules : TheRules) (l : Ledger) (u : Unfinished) → StandsWhole self.old rules l u
+            → StandsWhole self.new rules l u) }
     {
         let Some(noted) = &self.noted else {
             return Ok(None);

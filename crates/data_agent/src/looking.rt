@@ -135,7 +135,8 @@ impl Agent {
     fn copy(&self) -> &Resident
         requires { IsPrepared self.now }
         ensures copy { IsCopy self.now result.now }
-        ensures resident { (rules : TheRules) (l : Ledger) → Stands self.now rules l → IsResident rules l.account self.now.page.number result.now }
+        ensures resident { (rules : TheRules) (l : Ledger) → Stands self.now rules l
+            → IsResident rules l.account self.now.page.number result.now }
     {
         match &self.copied {
             Some(resident) => resident,
@@ -151,14 +152,16 @@ impl Agent {
         page: PageNo,
         digests: &Digests,
     ) -> Result<Looked<'_>, NoMemory>
-        requires closed { (rules : TheRules) × (l : Ledger) × Stands self.now rules l × (self.now.catalogue.gone ≤ page.number) × (page.number < self.now.page.number)
+        requires closed { (rules : TheRules) × (l : Ledger) × Stands self.now rules l
+            × (self.now.catalogue.gone ≤ page.number) × (page.number < self.now.page.number)
             × AreDigests rules l.account page.number digests.now }
         ensures gets { let before = view_of H.tells H.contents H.faults shelf.old in
             let after = view_of H.tells H.contents H.faults shelf.new in
             Gets before after }
         ensures read { let before = view_of H.tells H.contents H.faults shelf.old in
             let after = view_of H.tells H.contents H.faults shelf.new in
-            IfOk result (λ looked. (rules : TheRules) (l : Ledger) → Stands self.now rules l → AreDigests rules l.account page.number digests.now
+            IfOk result (λ looked. (rules : TheRules) (l : Ledger) → Stands self.now rules l
+            → AreDigests rules l.account page.number digests.now
             → IsReadBack rules l.account page.number before after looked) }
     {
         match read_back(alloc, shelf, &self.head(page), self.rules.n, digests)? {
@@ -181,13 +184,15 @@ impl Agent {
         page: PageNo,
     ) -> Result<Looked<'_>, NoMemory>
         requires prepared { IsPrepared self.now }
-        requires near { (rules : TheRules) × (l : Ledger) × Stands self.now rules l × (self.now.catalogue.gone ≤ page.number) × (page.number ≤ self.now.page.number) }
+        requires near { (rules : TheRules) × (l : Ledger) × Stands self.now rules l
+            × (self.now.catalogue.gone ≤ page.number) × (page.number ≤ self.now.page.number) }
         ensures gets { let before = view_of H.tells H.contents H.faults shelf.old in
             let after = view_of H.tells H.contents H.faults shelf.new in
             Gets before after }
         ensures looked { let before = view_of H.tells H.contents H.faults shelf.old in
             let after = view_of H.tells H.contents H.faults shelf.new in
-            IfOk result (λ looked. (rules : TheRules) (l : Ledger) → Stands self.now rules l → IsLooked rules l page.number before after looked) }
+            IfOk result (λ looked. (rules : TheRules) (l : Ledger) → Stands self.now rules l
+            → IsLooked rules l page.number before after looked) }
     {
         if page.number == self.page.number {
             return Ok(Looked::Borrowed(self.copy()));
@@ -215,7 +220,8 @@ impl Agent {
             Gets before after }
         ensures looked { let before = view_of H.tells H.contents H.faults shelf.old in
             let after = view_of H.tells H.contents H.faults shelf.new in
-            IfOk result (λ looks. (rules : TheRules) (l : Ledger) → Stands self.now rules l → LooksTo rules l from (last + 1 - from) looks.items before after) }
+            IfOk result (λ looks. (rules : TheRules) (l : Ledger) → Stands self.now rules l
+            → LooksTo rules l from (last + 1 - from) looks.items before after) }
     {
         let mut looks = Vec::new(alloc);
         'pages: for number in from..last + 1 {

@@ -23,10 +23,9 @@ use std::alloc::Global;
 impl Agent {
     // The first page that has not expired.
     pub(crate) fn first(&self) -> u32
-        requires { (rules : TheRules) × (a : Account) × HasPages self.now rules a }
         ensures { result ≡ self.now.catalogue.gone }
     {
-        self.earliest
+        self.catalogue.expired_count()
     }
 
     // The first page that stands in a slot: those before it have expired or were collected.
@@ -40,7 +39,8 @@ impl Agent {
     // Collects the page that stands in a slot longest.
     fn take_oldest(&mut self, alloc: Global, plane: &Plane) -> Result<(), NoMemory>
         requires own { IsOwnPlane plane.now self.old }
-        requires stands { (rules : TheRules) × (l : Ledger) × StandsAmid self.old rules l × (standing self.old < self.old.page.number) }
+        requires stands { (rules : TheRules) × (l : Ledger) × StandsAmid self.old rules l
+            × (standing self.old < self.old.page.number) }
         ensures own { IsOwnPlane plane.now self.new }
         ensures rest { IsRestSame self.old self.new }
         ensures amid { (rules : TheRules) (l : Ledger) → StandsAmid self.old rules l → StandsAmid self.new rules l }
@@ -66,9 +66,11 @@ impl Agent {
         requires stands { (rules : TheRules) × (l : Ledger) × StandsAmid self.old rules l }
         ensures own { IsOwnPlane plane.now self.new }
         ensures rest { IsRestSame self.old self.new }
-        ensures whole { OnOk result ((rules : TheRules) (l : Ledger) (u : Unfinished) → StandsFor self.old rules l u → StandsWhole self.new rules l u) }
+        ensures whole { OnOk result ((rules : TheRules) (l : Ledger) (u : Unfinished) → StandsFor self.old rules l u
+            → StandsWhole self.new rules l u) }
         ensures taken { OnOk result (AreTaken self.new) }
-        ensures same { (rules : TheRules) (l : Ledger) (u : Unfinished) → StandsFor self.old rules l u → StandsFor self.new rules l u }
+        ensures same { (rules : TheRules) (l : Ledger) (u : Unfinished) → StandsFor self.old rules l u
+            → StandsFor self.new rules l u }
     {
         let from = self.standing();
         'pages: for _ in from..self.page.number {
@@ -105,9 +107,12 @@ impl Agent {
         requires ready { MayTurn (StandsFor self.old) clock }
         ensures own { IsOwnPlane plane.now self.new }
         ensures entries { entries_of self.new ≡ entries_of self.old }
-        ensures page { IfOk result (λ page. (rules : TheRules) (l : Ledger) (u : Unfinished) → StandsFor self.old rules l u → page.number ≡ open_page l.account.closings + 1) }
-        ensures turned { OnOk result ((rules : TheRules) (l : Ledger) (u : Unfinished) → StandsFor self.old rules l u → StandsFor self.new rules (turned_at l clock) u) }
-        ensures same { OnErr result ((rules : TheRules) (l : Ledger) (u : Unfinished) → StandsFor self.old rules l u → StandsFor self.new rules l u) }
+        ensures page { IfOk result (λ page. (rules : TheRules) (l : Ledger) (u : Unfinished)
+            → StandsFor self.old rules l u → page.number ≡ open_page l.account.closings + 1) }
+        ensures turned { OnOk result ((rules : TheRules) (l : Ledger) (u : Unfinished) → StandsFor self.old rules l u
+            → StandsFor self.new rules (turned_at l clock) u) }
+        ensures same { OnErr result ((rules : TheRules) (l : Ledger) (u : Unfinished) → StandsFor self.old rules l u
+            → StandsFor self.new rules l u) }
     {
         self.make_room(alloc, plane)?;
         self.catalogue.reserve(alloc, 1)?;
@@ -126,7 +131,8 @@ impl Agent {
         requires stands { (rules : TheRules) × (l : Ledger) × (u : Unfinished) × StandsFor self.old rules l u }
         ensures own { IsOwnPlane plane.now self.new }
         ensures entries { entries_of self.new ≡ entries_of self.old }
-        ensures same { (rules : TheRules) (l : Ledger) (u : Unfinished) → StandsFor self.old rules l u → StandsFor self.new rules l u }
+        ensures same { (rules : TheRules) (l : Ledger) (u : Unfinished) → StandsFor self.old rules l u
+            → StandsFor self.new rules l u }
         ensures prepared { OnOk result (IsPrepared self.new) }
     {
         self.take_all(alloc, plane)?;

@@ -23,20 +23,23 @@ use std::sync::Wait;
 impl Agent {
     // The first page that stands in a slot.
     pub(crate) fn standing_beside(&self) -> u32
-        requires { (rules : TheRules) × (l : Ledger) × (u : Unfinished) × (away : Away) × StandsBeside self.now rules l u away }
+        requires { (rules : TheRules) × (l : Ledger) × (u : Unfinished) × (away : Away)
+            × StandsBeside self.now rules l u away }
         ensures { result ≡ standing self.now }
     {
-        self.earliest + self.closed.len() as u32
+        self.first() + self.closed.len() as u32
     }
 
     // Collects the page that stands in a slot longest. It must be quiet. Takes all memory before the page leaves its slot.
     pub(crate) fn collect_oldest(&mut self, alloc: Global, plane: &Plane) -> Result<(), NoMemory>
         requires own { IsOwnPlane plane.now self.old }
-        requires stands { (rules : TheRules) × (l : Ledger) × (u : Unfinished) × (away : Away) × StandsBeside self.old rules l u away × (standing self.old < self.old.page.number) }
+        requires stands { (rules : TheRules) × (l : Ledger) × (u : Unfinished) × (away : Away)
+            × StandsBeside self.old rules l u away × (standing self.old < self.old.page.number) }
         requires quiet { IsQuiet (phase_with self.old.keeper.view.duties (standing self.old)) }
         ensures own { IsOwnPlane plane.now self.new }
         ensures rest { IsRestSame self.old self.new }
-        ensures beside { (rules : TheRules) (l : Ledger) (u : Unfinished) (away : Away) → StandsBeside self.old rules l u away → StandsBeside self.new rules l u away }
+        ensures beside { (rules : TheRules) (l : Ledger) (u : Unfinished) (away : Away)
+            → StandsBeside self.old rules l u away → StandsBeside self.new rules l u away }
         ensures one { OnOk result (standing self.new ≡ standing self.old + 1) }
         ensures free { OnOk result (1 ≤ free_count self.new.keeper.view.duties) }
         ensures reads { KeepsReads self.old self.new }
@@ -57,10 +60,12 @@ impl Agent {
     // Waits until nobody is inside the page that stands in a slot longest.
     fn wait_for_oldest<R: Wait>(&mut self, rt: &R, plane: &Plane)
         requires own { IsOwnPlane plane.now self.old }
-        requires stands { (rules : TheRules) × (l : Ledger) × (u : Unfinished) × (away : Away) × StandsBeside self.old rules l u away × (standing self.old < self.old.page.number) }
+        requires stands { (rules : TheRules) × (l : Ledger) × (u : Unfinished) × (away : Away)
+            × StandsBeside self.old rules l u away × (standing self.old < self.old.page.number) }
         ensures own { IsOwnPlane plane.now self.new }
         ensures rest { IsRestSame self.old self.new }
-        ensures beside { (rules : TheRules) (l : Ledger) (u : Unfinished) (away : Away) → StandsBeside self.old rules l u away → StandsBeside self.new rules l u away }
+        ensures beside { (rules : TheRules) (l : Ledger) (u : Unfinished) (away : Away)
+            → StandsBeside self.old rules l u away → StandsBeside self.new rules l u away }
         ensures standing { standing self.new ≡ standing self.old }
         ensures quiet { IsQuiet (phase_with self.new.keeper.view.duties (standing self.new)) }
         ensures reads { KeepsReads self.old self.new }
@@ -79,10 +84,12 @@ impl Agent {
         plane: &Plane,
     ) -> Result<(), NoMemory>
         requires own { IsOwnPlane plane.now self.old }
-        requires stands { (rules : TheRules) × (l : Ledger) × (u : Unfinished) × (away : Away) × StandsBeside self.old rules l u away }
+        requires stands { (rules : TheRules) × (l : Ledger) × (u : Unfinished) × (away : Away)
+            × StandsBeside self.old rules l u away }
         ensures own { IsOwnPlane plane.now self.new }
         ensures rest { IsRestSame self.old self.new }
-        ensures beside { (rules : TheRules) (l : Ledger) (u : Unfinished) (away : Away) → StandsBeside self.old rules l u away → StandsBeside self.new rules l u away }
+        ensures beside { (rules : TheRules) (l : Ledger) (u : Unfinished) (away : Away)
+            → StandsBeside self.old rules l u away → StandsBeside self.new rules l u away }
         ensures free { OnOk result (1 ≤ free_count self.new.keeper.view.duties) }
         ensures reads { KeepsReads self.old self.new }
     {
@@ -105,14 +112,18 @@ impl Agent {
         clock: u64,
     ) -> Result<PageNo, NoMemory>
         requires own { IsOwnPlane plane.now self.old }
-        requires ready { (rules : TheRules) × (l : Ledger) × (u : Unfinished) × (away : Away) × StandsBeside self.old rules l u away × IsLate l clock × HasRoom l }
+        requires ready { (rules : TheRules) × (l : Ledger) × (u : Unfinished) × (away : Away)
+            × StandsBeside self.old rules l u away × IsLate l clock × HasRoom l }
         ensures own { IsOwnPlane plane.now self.new }
         ensures entries { entries_of self.new ≡ entries_of self.old }
-        ensures page { IfOk result (λ page. (rules : TheRules) (l : Ledger) (u : Unfinished) (away : Away) → StandsBeside self.old rules l u away
+        ensures page { IfOk result (λ page. (rules : TheRules) (l : Ledger) (u : Unfinished) (away : Away)
+            → StandsBeside self.old rules l u away
             → page.number ≡ open_page l.account.closings + 1) }
-        ensures turned { OnOk result ((rules : TheRules) (l : Ledger) (u : Unfinished) (away : Away) → StandsBeside self.old rules l u away
+        ensures turned { OnOk result ((rules : TheRules) (l : Ledger) (u : Unfinished) (away : Away)
+            → StandsBeside self.old rules l u away
             → StandsBeside self.new rules (turned_at l clock) u away) }
-        ensures same { OnErr result ((rules : TheRules) (l : Ledger) (u : Unfinished) (away : Away) → StandsBeside self.old rules l u away
+        ensures same { OnErr result ((rules : TheRules) (l : Ledger) (u : Unfinished) (away : Away)
+            → StandsBeside self.old rules l u away
             → StandsBeside self.new rules l u away) }
         ensures reads { KeepsReads self.old self.new }
     {

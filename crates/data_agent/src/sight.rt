@@ -62,7 +62,9 @@ impl<'a> Sight<'a> {
 
     // Adds what the rows of the pages say that a signature was before.
     fn undo(&self, olds: &mut Vec<Sig>, sig: &Sig) -> Result<(), NoMemory>
-        ensures { OnOk result (olds.new.items ≡ olds.old.items ++ undone_in self.now.first self.now.last sig.now (with_key (key_of sig.now) self.now.rows.now)) }
+        ensures { OnOk result (olds.new.items
+            ≡ olds.old.items ++ undone_in self.now.first self.now.last sig.now
+            (with_key (key_of sig.now) self.now.rows.now)) }
     {
         for (page, row) in self.rows.find(key(sig)) {
             if self.first <= page.number && page.number <= self.last {
@@ -143,13 +145,18 @@ impl Agent {
         requires past { MayAsk (StandsFor self.now) time }
         ensures later { H.faults shelf.old ≤ H.faults shelf.new }
         ensures still { H.tells shelf.new ≡ H.tells shelf.old }
-        ensures seen { IfOk result (λ s. (rules : TheRules) (l : Ledger) (u : Unfinished) → StandsFor self.now rules l u → IsSeen rules l time (shown_by s) (told_by s)) }
-        ensures paid { IfOk result (λ s. RoseBy (failures (told_by s).reading) (H.faults shelf.old) (H.faults shelf.new)) }
-        ensures all_true { IfOk result (λ s. (rules : TheRules) (l : Ledger) (u : Unfinished) → StandsFor self.now rules l u → H.tells shelf.old ≡ true
+        ensures seen { IfOk result (λ s. (rules : TheRules) (l : Ledger) (u : Unfinished) → StandsFor self.now rules l u
+            → IsSeen rules l time (shown_by s) (told_by s)) }
+        ensures paid { IfOk result (λ s. RoseBy (failures (told_by s).reading) (H.faults shelf.old)
+            (H.faults shelf.new)) }
+        ensures all_true { IfOk result (λ s. (rules : TheRules) (l : Ledger) (u : Unfinished)
+            → StandsFor self.now rules l u → H.tells shelf.old ≡ true
             → Holds rules (H.contents shelf.old) l → AreTrue rules l.account (told_by s).reading) }
-        ensures only_faults { IfOk result (λ s. (rules : TheRules) (l : Ledger) (u : Unfinished) → StandsFor self.now rules l u → H.tells shelf.old ≡ true
+        ensures only_faults { IfOk result (λ s. (rules : TheRules) (l : Ledger) (u : Unfinished)
+            → StandsFor self.now rules l u → H.tells shelf.old ≡ true
             → Holds rules (H.contents shelf.old) l → AllFailed (told_by s).reading) }
-        ensures unchanged { OnOk result (H.tells shelf.old ≡ true → IsSame (H.contents shelf.old) (H.contents shelf.new)) }
+        ensures unchanged { OnOk result (H.tells shelf.old ≡ true
+            → IsSame (H.contents shelf.old) (H.contents shelf.new)) }
     {
         let window = self.catalogue.window(time);
         let first = self.first();

@@ -31,7 +31,13 @@ pub(crate) fn deal_passes(
     requires open { HasOpen keeper.old.view.duties }
     requires least { 1 ≤ passes }
     requires most { passes ≤ MOST_PASSES }
-    ensures passes { IfOk result (λ v. v.items ≡ replicate passes (record { table = plane.now.table; floor = open_page keeper.old.view.duties; entries = []; visits = [] })) }
+    ensures passes { IfOk result (λ v. v.items
+        ≡ replicate passes (record {
+          table = plane.now.table;
+          floor = open_page keeper.old.view.duties;
+          entries = [];
+          visits = [];
+        })) }
     ensures keeper { OnOk result (keeper.new ≡ dealer_held keeper.old passes) }
     ensures unchanged { OnErr result (keeper.new ≡ keeper.old) }
 {
@@ -66,12 +72,14 @@ pub(crate) fn gather_passes(plane: &Plane, keeper: &mut Keeper, passes: Vec<Pass
 /// Looks once whether a closed page is quiet.
 pub(crate) fn settle_beside(plane: &Plane, keeper: &mut Keeper, page: PageNo) -> Settled
     requires plane { keeper.old.table ≡ plane.now.table }
-    requires stands { (first : ℕ) × (last : ℕ) × IsMinding plane.now.shape keeper.old first last × (first ≤ page.number) × (page.number < last) }
+    requires stands { (first : ℕ) × (last : ℕ) × IsMinding plane.now.shape keeper.old first last × (first ≤ page.number)
+        × (page.number < last) }
     ensures same { KeepsWords plane.now.shape keeper.old keeper.new }
     ensures quiet { (result ≡ settled.Quiet) → IsQuiet (phase_with keeper.new.view.duties page.number) }
     ensures inside { (result ≡ settled.Quiet → ⊥) → 1 ≤ inside_of keeper.new.view.duties.noted }
     ensures alone { (keeper.old.view.duties.out ≡ 0) → result ≡ settled.Quiet }
-    ensures minding { (first last : ℕ) → IsMinding plane.now.shape keeper.old first last → IsMinding plane.now.shape keeper.new first last }
+    ensures minding { (first last : ℕ) → IsMinding plane.now.shape keeper.old first last
+        → IsMinding plane.now.shape keeper.new first last }
 {
     plane.settle(keeper, page)
 }
@@ -79,10 +87,12 @@ pub(crate) fn settle_beside(plane: &Plane, keeper: &mut Keeper, page: PageNo) ->
 /// Waits until a closed page is quiet. Somebody is inside only in the middle of a record, which waits for nobody.
 pub(crate) fn settle_until_quiet<R: Wait>(rt: &R, plane: &Plane, keeper: &mut Keeper, page: PageNo)
     requires plane { keeper.old.table ≡ plane.now.table }
-    requires stands { (first : ℕ) × (last : ℕ) × IsMinding plane.now.shape keeper.old first last × (first ≤ page.number) × (page.number < last) }
+    requires stands { (first : ℕ) × (last : ℕ) × IsMinding plane.now.shape keeper.old first last × (first ≤ page.number)
+        × (page.number < last) }
     ensures same { KeepsWords plane.now.shape keeper.old keeper.new }
     ensures quiet { IsQuiet (phase_with keeper.new.view.duties page.number) }
-    ensures minding { (first last : ℕ) → IsMinding plane.now.shape keeper.old first last → IsMinding plane.now.shape keeper.new first last }
+    ensures minding { (first last : ℕ) → IsMinding plane.now.shape keeper.old first last
+        → IsMinding plane.now.shape keeper.new first last }
 {
     'looks: for _ in rt.forever() {
         if settle_beside(plane, keeper, page) == Settled::Quiet {
@@ -105,9 +115,11 @@ pub(crate) fn collect_beside(
     ensures same { KeepsWords plane.now.shape keeper.old keeper.new }
     ensures bits { IfOk result (λ bits. bits ≡ collected_page plane.now.shape keeper.new.view.duties page.number) }
     ensures collected { OnOk result (IsCollected plane.now.shape keeper.new.view.duties page.number) }
-    ensures gathered { IfOk result (λ bits. (at : ℕ) → at < size plane.now.shape → IsMarked plane.now.shape keeper.old.view.entries page.number at → Contains bits.members at) }
+    ensures gathered { IfOk result (λ bits. (at : ℕ) → at < size plane.now.shape
+        → IsMarked plane.now.shape keeper.old.view.entries page.number at → Contains bits.members at) }
     ensures free { OnOk result (1 ≤ free_count keeper.new.view.duties) }
-    ensures taken { OnOk result ((last : ℕ) → IsMinding plane.now.shape keeper.old page.number last → IsMinding plane.now.shape keeper.new (page.number + 1) last) }
+    ensures taken { OnOk result ((last : ℕ) → IsMinding plane.now.shape keeper.old page.number last
+        → IsMinding plane.now.shape keeper.new (page.number + 1) last) }
     ensures unchanged { OnErr result (keeper.new ≡ keeper.old) }
 {
     plane.collect(alloc, keeper, page)
@@ -119,7 +131,8 @@ pub(crate) fn turn_beside<R: Wait>(rt: &R, plane: &Plane, keeper: &mut Keeper)
     requires stands { (first : ℕ) × (last : ℕ) × IsMinding plane.now.shape keeper.old first last × (last + 2 < 2 ^ 32) }
     requires free { 1 ≤ free_count keeper.old.view.duties }
     ensures same { KeepsWords plane.now.shape keeper.old keeper.new }
-    ensures turned { (first last : ℕ) → IsMinding plane.now.shape keeper.old first last → IsMinding plane.now.shape keeper.new first (last + 1) }
+    ensures turned { (first last : ℕ) → IsMinding plane.now.shape keeper.old first last
+        → IsMinding plane.now.shape keeper.new first (last + 1) }
 {
     plane.rotate(rt, keeper);
 }

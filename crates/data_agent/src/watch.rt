@@ -27,7 +27,7 @@ impl Agent {
         requires near { self.now.catalogue.gone ≤ page }
         ensures { result ≡ nat_lt page (standing self.now) }
     {
-        page < self.earliest + self.closed.len() as u32
+        page < self.first() + self.closed.len() as u32
     }
 
     // Where a page is that was collected and has not expired.
@@ -37,7 +37,7 @@ impl Agent {
         requires collected { page < standing self.now }
         ensures here { place_of self.now page ≡ Some result.now }
     {
-        &self.closed[(page - self.earliest) as usize].place
+        &self.closed[(page - self.first()) as usize].place
     }
 
     // Whether such a page is on the shelf.
@@ -60,7 +60,8 @@ impl Agent {
         requires near { self.now.catalogue.gone ≤ page }
         requires collected { page < standing self.now }
         ensures memory { TellsMemory self.now page sig.now result }
-        ensures shows { (rules : TheRules) (l : Ledger) → StandsAmid self.now rules l → result ≡ shows_now rules l sig.now page }
+        ensures shows { (rules : TheRules) (l : Ledger) → StandsAmid self.now rules l
+            → result ≡ shows_now rules l sig.now page }
     {
         match self.place(page) {
             Whereabouts::InMemory(resident) => resident.has(sig),
@@ -77,7 +78,8 @@ impl Agent {
         ensures own { IsOwnPlane plane.now self.new }
         ensures read { (reads : List Probed) × HasNoted self.old self.new reads
             × TellsPage self.old reads page sig.now result }
-        ensures shows { (rules : TheRules) (l : Ledger) → StandsAmid self.old rules l → result ≡ shows_now rules l sig.now page }
+        ensures shows { (rules : TheRules) (l : Ledger) → StandsAmid self.old rules l
+            → result ≡ shows_now rules l sig.now page }
         ensures amid { (rules : TheRules) (l : Ledger) → StandsAmid self.old rules l → StandsAmid self.new rules l }
     {
         if self.is_collected(page) {
@@ -92,12 +94,14 @@ impl Agent {
         requires some { window.now.first.number ≤ window.now.last.number }
         requires exists { window.now.last.number ≤ self.now.page.number }
         ensures here { IsLackingHere self.now window.now.first.number window.now.last.number result }
-        ensures lacking { (rules : TheRules) (l : Ledger) → StandsAmid self.now rules l → IsLacking rules l window.now.first.number window.now.last.number result }
+        ensures lacking { (rules : TheRules) (l : Ledger) → StandsAmid self.now rules l
+            → IsLacking rules l window.now.first.number window.now.last.number result }
     {
-        if window.first.number < self.earliest {
+        let first = self.first();
+        if window.first.number < first {
             return true;
         }
-        let end = (self.earliest + self.closed.len() as u32).min(window.last.number + 1);
+        let end = (first + self.closed.len() as u32).min(window.last.number + 1);
         'pages: for page in window.first.number..end {
             if self.is_shelved(page) {
                 return true;
@@ -113,11 +117,12 @@ impl Agent {
         ensures own { IsOwnPlane plane.now self.new }
         ensures watched { (reads : List Probed) × HasNoted self.old self.new reads
             × TellsWatch self.old reads clock sig.now result }
-        ensures seen { (rules : TheRules) (l : Ledger) → StandsAmid self.old rules l → result ≡ watch_of rules l clock sig.now }
+        ensures seen { (rules : TheRules) (l : Ledger) → StandsAmid self.old rules l
+            → result ≡ watch_of rules l clock sig.now }
         ensures amid { (rules : TheRules) (l : Ledger) → StandsAmid self.old rules l → StandsAmid self.new rules l }
     {
         let window = self.catalogue.window(clock);
-        let first = self.earliest;
+        let first = self.first();
         'pages: for page in first.max(window.first.number)..window.last.number + 1 {
             if self.shows(plane, page, sig) {
                 return Watch::Seen;
@@ -140,17 +145,22 @@ impl Agent {
         requires stands { StandsAnyhow self.old }
         ensures own { IsOwnPlane plane.now self.new }
         ensures entries { entries_of self.new ≡ entries_of self.old }
-        ensures seen { (rules : TheRules) (l : Ledger) (u : Unfinished) → StandsFor self.old rules l u → result ≡ watch_of rules l clock sig.now }
-        ensures same { (rules : TheRules) (l : Ledger) (u : Unfinished) → StandsFor self.old rules l u → StandsFor self.new rules l u }
+        ensures seen { (rules : TheRules) (l : Ledger) (u : Unfinished) → StandsFor self.old rules l u
+            → result ≡ watch_of rules l clock sig.now }
+        ensures same { (rules : TheRules) (l : Ledger) (u : Unfinished) → StandsFor self.old rules l u
+            → StandsFor self.new rules l u }
         ensures probed_seen { result ≡ Seen
             → (reads : List Probed) × HasNoted self.old self.new reads × IsSeenOnce self.old reads clock sig.now }
         ensures probed_unseen { (result ≡ Seen → ⊥)
             → (reads : List Probed) × HasNoted self.old self.new reads × IsNeverSeen self.old reads clock sig.now }
-        ensures beside_seen { (rules : TheRules) (l : Ledger) (u : Unfinished) (away : Away) → StandsBeside self.old rules l u away
+        ensures beside_seen { (rules : TheRules) (l : Ledger) (u : Unfinished) (away : Away)
+            → StandsBeside self.old rules l u away
             → result ≡ Seen → IsSeenBeside rules l clock sig.now self.new }
-        ensures beside_unseen { (rules : TheRules) (l : Ledger) (u : Unfinished) (away : Away) → StandsBeside self.old rules l u away
+        ensures beside_unseen { (rules : TheRules) (l : Ledger) (u : Unfinished) (away : Away)
+            → StandsBeside self.old rules l u away
             → (result ≡ Seen → ⊥) → IsUnseenBeside rules l clock sig.now result }
-        ensures beside_same { (rules : TheRules) (l : Ledger) (u : Unfinished) (away : Away) → StandsBeside self.old rules l u away
+        ensures beside_same { (rules : TheRules) (l : Ledger) (u : Unfinished) (away : Away)
+            → StandsBeside self.old rules l u away
             → StandsBeside self.new rules l u away }
         ensures reads { KeepsReads self.old self.new }
     {

@@ -1,4 +1,4 @@
-use Rattle.data_agent.proofs.Minding.{collected_gathered, collected_minded, collected_room, collected_words}
+use Rattle.data_agent.proofs.CollectedPages.{collected_gathered, collected_minded, collected_room, collected_words}
 use Rattle.data_agent.proofs.slots_beside.collect_beside.Goals as goal
 
 pub returns-clause-same : goal.returns-clause-same

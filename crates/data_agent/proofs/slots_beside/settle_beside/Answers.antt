@@ -1,4 +1,5 @@
-use Rattle.data_agent.proofs.Minding.{minded_settled, same_bounds, settled_sees, words_settled}
+use Rattle.data_agent.proofs.Minding.{same_bounds}
+use Rattle.data_agent.proofs.SettledPages.{minded_settled, settled_sees, words_settled}
 use Rattle.data_agent.proofs.slots_beside.settle_beside.Goals as goal
 
 pub settle-requires-clause-waiting : goal.settle-requires-clause-waiting

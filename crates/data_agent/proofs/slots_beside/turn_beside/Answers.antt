@@ -1,5 +1,6 @@
 use Rattle.std.proofs.Common.{arith, ◌∙◌}
-use Rattle.data_agent.proofs.Minding.{minded_turned, next_minded, words_turned}
+use Rattle.data_agent.proofs.Minding.{next_minded}
+use Rattle.data_agent.proofs.TurnedPages.{minded_turned, words_turned}
 use Rattle.data_agent.proofs.slots_beside.turn_beside.Goals as goal
 
 pub rotate-requires-clause-open : goal.rotate-requires-clause-open

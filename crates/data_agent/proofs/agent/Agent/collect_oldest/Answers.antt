@@ -4,7 +4,7 @@ use Rattle.page_gate.specs.Held.{Held}
 use Rattle.data_agent.specs.Beside.{IsMinding}
 use Rattle.data_agent.specs.Standing.{standing}
 use Rattle.data_agent.proofs.Besides.{beside_kept, beside_taken, minding_taken, resident_taken, words_by}
-use Rattle.data_agent.proofs.Steps.{items_then}
+use Rattle.data_agent.proofs.Staying.{items_then}
 use Rattle.data_agent.proofs.agent.Agent.collect_oldest.Goals as goal
 
 pub returns-in_err-bits-clause-beside : goal.returns-in_err-bits-clause-beside
@@ -12,7 +12,7 @@ returns-in_err-bits-clause-beside c = λ rules l u away s.
     let old = c.args.self.now in
     let keeper = c.collect_beside.new.keeper in
     beside_kept old _ rules l u away
-    (record { rules = refl; router = refl; page = refl; first = refl; by_rules = refl; closings = refl; gone = refl; clock = refl; table = refl; noted = refl })
+    (record { rules = refl; router = refl; page = refl; by_rules = refl; closings = refl; gone = refl; clock = refl; table = refl; noted = refl })
     refl s
     (words_by c.args.plane.now old rules l u away c.requires.own s keeper c.collect_beside.ensures.same)
     c.reserve.ensures.items
@@ -27,7 +27,7 @@ returns-clause-beside c = λ rules l u away s.
     let (rules0, l0, u0, away0, s0, lt) = c.requires.stands in
     let end = s.pages.page in
     beside_taken old _ rules l u away
-    (record { rules = refl; router = refl; page = refl; first = refl; by_rules = refl; closings = refl; gone = refl; clock = refl; table = refl; noted = refl })
+    (record { rules = refl; router = refl; page = refl; by_rules = refl; closings = refl; gone = refl; clock = refl; table = refl; noted = refl })
     refl s
     (words_by plane old rules l u away c.requires.own s keeper c.collect_beside.ensures.same)
     _ (omega arith)

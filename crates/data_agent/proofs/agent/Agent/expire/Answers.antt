@@ -25,7 +25,7 @@ returns-clause-expired g c = λ rules l s.
     let is = c.expire.ensures.expired in
     let now = c.in-Some.ensures.now in
     let many : c.in-Some.pages.last.number - c.in-Some.pages.first.number + 1 ≡ c.expire.new.self.gone - c.args.self.now.catalogue.gone = let a = now.0 in let b = now.1 in let d = now.2 in omega arith in
-    expired c.args.self.now _ rules l c.args.clock s refl refl refl now.1 refl refl
+    expired c.args.self.now _ rules l c.args.clock s refl refl refl refl refl
     (ap (λ (x : Catalogued). x.rules) is) (ap (λ (x : Catalogued). x.closings) is) (ap (λ (x : Catalogued). x.clock) is)
     c.expire.ensures.never_back c.expire.ensures.within c.expire.ensures.exact
     (c.let_go.ensures ∙ ap (λ n. drop n c.args.self.now.closed.items) many)

@@ -6,7 +6,7 @@ use Rattle.data_agent.specs.declared.archival.Note.{Note}
 use Rattle.data_agent.specs.Finishing.{FinishesTo, PutsAllDeferred, pages_kept, pages_put, settled_all}
 use Rattle.data_agent.specs.Standing.{HasNotes, Stands}
 use Rattle.data_agent.proofs.Deferring.{finished_behind, noted_deferred}
-use Rattle.data_agent.proofs.Steps.{stands_same}
+use Rattle.data_agent.proofs.Staying.{stands_same}
 use Rattle.data_agent.proofs.Ended.{noted_needs, settled_of}
 use Rattle.data_agent.proofs.agent.Agent.finish.Goals as goal
 
@@ -73,5 +73,5 @@ returns-clause-finished g c = λ rules l u s.
     subst (λ ss. Stands c.settle.new.self rules (settled_all l ss)) c.deref-5.ensures.value
     (c.settle.ensures.settled rules l s.stands (λ one has. f.each one (subst (λ ss. Contains ss one) c.deref-5.ensures.value has))) in
     finished_behind c.args.self.now _ rules l u l.closed_at_archive c.in-Some.noted c.in_ok-notes.notes c.in_ok-settled.settled.items _ x y z s.stands refl noted d f
-    (stands_same c.settle.new.self _ rules (settled_all l c.in_ok-settled.settled.items) stands refl refl refl refl refl refl refl refl refl refl refl refl) refl
+    (stands_same c.settle.new.self _ rules (settled_all l c.in_ok-settled.settled.items) stands refl refl refl refl refl refl refl refl refl refl refl) refl
     (c.in_ok-put.ensures ∙ ap pages_put c.deref-3.ensures.value) (c.in_ok-kept.ensures ∙ ap pages_kept c.deref-4.ensures.value)

@@ -1,7 +1,7 @@
 use Rattle.std.proofs.Common.{◌+◌, ◌-◌, ◌^◌, ◌∙◌, min, ap, refl}
 use Rattle.page_gate.specs.Held.{Held}
 use Rattle.data_agent.proofs.Planes.{own_bare}
-use Rattle.data_agent.proofs.Steps.{recorded}
+use Rattle.data_agent.proofs.Recording.{recorded}
 use Rattle.data_agent.proofs.agent.Agent.forward.Goals as goal
 
 pub record_alone-page-requires-clause-alone : goal.record_alone-page-requires-clause-alone

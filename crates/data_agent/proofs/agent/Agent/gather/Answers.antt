@@ -1,10 +1,11 @@
-use Rattle.std.proofs.Common.{None, refl, ap, subst, sym, ◌∙◌}
+use Rattle.std.proofs.Common.{◌≡◌, ◌-◌, ◌^◌, ◌⊎◌, All, List, None, refl, ap, subst, sym, ◌∙◌}
 use Rattle.spie_base.specs.declared.PageShape.{PageShape}
-use Rattle.page_gate.specs.Held.{Held, WasAlone}
+use Rattle.page_gate.specs.Held.{Held, PassHeld, WasAlone}
 use Rattle.router_account.specs.Ledger.{Ledger}
 use Rattle.router_account.specs.Records.{ArePageBits}
 use Rattle.router_account.specs.Watches.{shows}
 use Rattle.data_agent.specs.declared.agent.Agent.{Agent}
+use Rattle.data_agent.specs.Beside.{AreBelow}
 use Rattle.data_agent.specs.Standing.{StandsFor}
 use Rattle.data_agent.proofs.Besides.{own_beside}
 use Rattle.data_agent.proofs.Gathering.{gathered_home, gathered_stands, put_gathered, shown_gathered}
@@ -19,9 +20,11 @@ returns-clause-stands c = λ rules l u away s from after g.
     let told = c.gather_passes.ensures in
     let k = c.gather_passes.new.keeper in
     let alone = subst (λ (x : PageShape). WasAlone x k.view) (own_beside c.args.plane.now c.args.self.now rules l u away c.requires.own s) told.alone in
-    let new : Agent = record c.args.self.now { keeper = k; marked = 4294967295; copied = None } in
+    let new : Agent = record c.args.self.now { keeper = k; marked = c.most_marked-self.result; copied = None } in
+    let bound = subst (λ (ps : List PassHeld). (c.most_marked-self.result ≡ 2 ^ 32 - 1)
+    ⊎ ((c.most_marked-self.result ≡ c.args.self.now.marked) × All (λ (p : PassHeld). AreBelow c.args.self.now.page.number p.entries) ps)) c.deref.ensures.value c.most_marked-self.ensures in
     subst (λ (m : Ledger). StandsFor new rules m u) (sym g.rest)
-    (gathered_stands c.args.self.now k c.args.passes.items rules l u away s told.gathered told.entries alone told.rise from after.account.entries g.members told.none_out)
+    (gathered_stands c.args.self.now k c.args.passes.items rules l u away s told.gathered told.entries alone told.rise from after.account.entries g.members c.most_marked-self.result bound told.none_out)
 
 pub returns-clause-bits : goal.returns-clause-bits
 returns-clause-bits c = λ rules l u away s from after g.

@@ -15,7 +15,7 @@ returns-clause-stays c = record {
       let first = standing old in
       let last = length l.account.closings in
       beside_kept old _ rules l u away
-      (record { rules = refl; router = refl; page = refl; first = refl; by_rules = refl; closings = refl; gone = refl; clock = refl; table = refl; noted = refl })
+      (record { rules = refl; router = refl; page = refl; by_rules = refl; closings = refl; gone = refl; clock = refl; table = refl; noted = refl })
       refl s
       (words_by plane old rules l u away c.requires.own s keeper c.settle_beside.ensures.same)
       refl

@@ -10,7 +10,7 @@ use Rattle.data_agent.proofs.agent.Agent.look_through.Goals as goal
 
 pub pages-init : goal.pages-init
 pages-init c =
-    let first = c.requires.places.first in
+    let first : c.first-first.result ≡ c.args.self.now.catalogue.gone = c.first-first.ensures in
     record {
       own = c.requires.own;
       read = ([], noted_none c.args.self.now, λ page near from lt. absurd (omega (arith, c.max-page.ensures)));
@@ -25,7 +25,7 @@ shows-requires-clause-places c =
 
 pub shows-requires-clause-near : goal.shows-requires-clause-near
 shows-requires-clause-near c =
-    let first = c.requires.places.first in
+    let first : c.first-first.result ≡ c.args.self.now.catalogue.gone = c.first-first.ensures in
     let (reads, noted, unseen) = c.pages.invariant.read in
     let gone : c.pages.self.catalogue.gone ≡ c.args.self.now.catalogue.gone = ap (λ (a : Agent). a.catalogue.gone) noted in
     omega (arith, c.pages.auto.page, c.max-page.ensures)
@@ -39,7 +39,7 @@ shows-requires-clause-exists c =
 
 pub returns-then-shows-clause-seen : goal.returns-then-shows-clause-seen
 returns-then-shows-clause-seen c = λ rules l s.
-    let first = c.requires.places.first in
+    let first : c.first-first.result ≡ c.args.self.now.catalogue.gone = c.first-first.ensures in
     let w = window_is c.args.self.now rules l.account c.args.clock _ _ s.pages c.window-window.ensures.some c.window-window.ensures.exists c.window-window.ensures.exact in
     sym (seen_by c.args.self.now rules l c.args.clock c.args.sig.now _ _ c.pages.page s w
     (omega (arith, c.max-page.ensures, c.pages.auto.page)) (omega (arith, c.pages-test.true)) (omega (arith, c.max-page.ensures, c.pages.auto.page))
@@ -50,7 +50,7 @@ returns-then-shows-clause-amid c = λ rules m s. c.shows.ensures.amid rules m (c
 
 pub returns-then-shows-clause-watched : goal.returns-then-shows-clause-watched
 returns-then-shows-clause-watched c =
-    let first = c.requires.places.first in
+    let first : c.first-first.result ≡ c.args.self.now.catalogue.gone = c.first-first.ensures in
     let (reads, noted, unseen) = c.pages.invariant.read in
     let (more, then, tells) = c.shows.ensures.read in (
       reads ++ more,

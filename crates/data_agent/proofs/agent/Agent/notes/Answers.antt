@@ -11,7 +11,7 @@ pub pages-init : goal.pages-init
 pages-init g c =
     let agent : Agent = c.args.self.now in
     let (rules0, l0, k) = c.requires in
-    let first : agent.earliest ≡ agent.catalogue.gone = k.first in
+    let first : c.first-number.result ≡ agent.catalogue.gone = c.first-number.ensures in
     record {
       later = omega arith;
       still = refl;
@@ -26,14 +26,14 @@ pub note-requires-clause-closed : goal.note-requires-clause-closed
 note-requires-clause-closed g c =
     let agent : Agent = c.args.self.now in
     let (rules, l, k) = c.requires in
-    let first : agent.earliest ≡ agent.catalogue.gone = k.first in
+    let first : c.first-number.result ≡ agent.catalogue.gone = c.first-number.ensures in
     (omega (arith, first, c.pages.auto.number), c.pages-test.true)
 
 pub pages-preserved : goal.pages-preserved
 pages-preserved g c =
     let agent : Agent = c.args.self.now in
     let (rules0, l0, k) = c.requires in
-    let first : agent.earliest ≡ agent.catalogue.gone = k.first in
+    let first : c.first-number.result ≡ agent.catalogue.gone = c.first-number.ensures in
     let items : with_note c.pages.notes.items c.in_ok-note.field-0 ≡ c.match-branch-2.notes.items = elim c.match-branch-2.branch [
       | in-Some+in_ok-push w ↦ ap (with_note c.pages.notes.items) w.in-Some.is ∙ sym w.in_ok-push.ensures.items ∙ sym (ap (λ v. v.items) w.notes-is)
       | in_default w ↦ ap (with_note c.pages.notes.items) w.in_default.is ∙ sym (ap (λ v. v.items) w.notes-is)

@@ -9,10 +9,10 @@ pub copy_page-requires-clause-stands : goal.copy_page-requires-clause-stands
 copy_page-requires-clause-stands c = let (rules, l, u, s) = c.requires.stands in copy_needs c.args.plane.now c.take_all.new.self rules l u c.take_all.ensures.own (c.take_all.ensures.same rules l u s)
 
 pub returns-in_err-bits-clause-same : goal.returns-in_err-bits-clause-same
-returns-in_err-bits-clause-same c = λ rules l u s. for_copied c.args.plane.now c.take_all.new.self _ rules l u c.take_all.ensures.own refl refl refl refl refl refl refl refl refl c.copy_page.ensures.same (c.take_all.ensures.same rules l u s)
+returns-in_err-bits-clause-same c = λ rules l u s. for_copied c.args.plane.now c.take_all.new.self _ rules l u c.take_all.ensures.own refl refl refl refl refl refl refl refl c.copy_page.ensures.same (c.take_all.ensures.same rules l u s)
 
 pub returns-clause-same : goal.returns-clause-same
-returns-clause-same c = λ rules l u s. for_copied c.args.plane.now c.take_all.new.self _ rules l u c.take_all.ensures.own refl refl refl refl refl refl refl refl refl c.copy_page.ensures.same (c.take_all.ensures.same rules l u s)
+returns-clause-same c = λ rules l u s. for_copied c.args.plane.now c.take_all.new.self _ rules l u c.take_all.ensures.own refl refl refl refl refl refl refl refl c.copy_page.ensures.same (c.take_all.ensures.same rules l u s)
 
 pub returns-then-is_some-clause-prepared : goal.returns-then-is_some-clause-prepared
 returns-then-is_some-clause-prepared c = record {

@@ -3,7 +3,8 @@ use Rattle.page_catalogue.specs.Catalogues.{Catalogued}
 use Rattle.data_agent.specs.Standing.{StillStands, standing}
 use Rattle.data_agent.proofs.Planes.{for_same, kept_by, may_turn, own_keeping}
 use Rattle.data_agent.proofs.Results.{on_err}
-use Rattle.data_agent.proofs.Steps.{turned, still, has_room, times_turned}
+use Rattle.data_agent.proofs.Closings.{turned, has_room, times_turned}
+use Rattle.data_agent.proofs.Staying.{still}
 use Rattle.data_agent.proofs.agent.Agent.rotate_alone.Goals as goal
 
 pub make_room-requires-clause-stands : goal.make_room-requires-clause-stands
@@ -15,11 +16,11 @@ returns-in_err-make_room-clause-same c = on_err _ (for_same c.args.self.now c.ma
 pub returns-in_err-reserve-clause-same : goal.returns-in_err-reserve-clause-same
 returns-in_err-reserve-clause-same c =
     let same : StillStands c.args.self.now (record c.make_room.new.self { catalogue = c.reserve.new.self }) = λ rules l u s.
-    still c.make_room.new.self (record c.make_room.new.self { catalogue = c.reserve.new.self }) refl refl refl refl refl refl refl c.reserve.ensures.same refl refl rules l u (for_same c.args.self.now c.make_room.new.self c.make_room.ensures.rest c.make_room.ensures.amid rules l u s) in
+    still c.make_room.new.self (record c.make_room.new.self { catalogue = c.reserve.new.self }) refl refl refl refl refl refl c.reserve.ensures.same refl refl rules l u (for_same c.args.self.now c.make_room.new.self c.make_room.ensures.rest c.make_room.ensures.amid rules l u s) in
     on_err _ same
 
-pub turn_page-self-requires-clause-stands : goal.turn_page-self-requires-clause-stands
-turn_page-self-requires-clause-stands c =
+pub turn_page-requires-clause-stands : goal.turn_page-requires-clause-stands
+turn_page-requires-clause-stands c =
     let (rules, l, u, s, late, room) = c.requires.ready in
     let t = c.make_room.ensures.amid rules l s.amid in
     (l.account.entries, standing c.make_room.new.self, length l.account.closings, own_keeping c.args.plane.now c.make_room.new.self rules l.account c.make_room.ensures.own t.pages, (omega arith))
@@ -47,8 +48,7 @@ returns-clause-turned c = λ rules l u s.
     (c.turn-self.ensures.page ∙ ap (λ (x : Catalogued). length x.closings + 1) same)
     refl
     refl
-    refl
-    (kept_by c.args.plane.now c.make_room.new.self rules l.account c.make_room.ensures.own t.amid.pages c.turn_page-self.new.keeper (standing c.make_room.new.self) (length l.account.closings + 1)
-    (c.turn_page-self.ensures.turned l.account.entries (standing c.make_room.new.self) (length l.account.closings) (own_keeping c.args.plane.now c.make_room.new.self rules l.account c.make_room.ensures.own t.amid.pages)))
+    (kept_by c.args.plane.now c.make_room.new.self rules l.account c.make_room.ensures.own t.amid.pages c.turn_page.new.keeper (standing c.make_room.new.self) (length l.account.closings + 1)
+    (c.turn_page.ensures.turned l.account.entries (standing c.make_room.new.self) (length l.account.closings) (own_keeping c.args.plane.now c.make_room.new.self rules l.account c.make_room.ensures.own t.amid.pages)))
     refl
     refl

@@ -2,7 +2,7 @@ use Rattle.std.proofs.Common.{refl, []}
 use Rattle.data_agent.proofs.Places.{before_of, collected_tells, past_of, probe_tells}
 use Rattle.data_agent.proofs.Planes.{kept_then, probed_shows}
 use Rattle.data_agent.proofs.ReadMarks.{noted_none}
-use Rattle.data_agent.proofs.Steps.{amid_then}
+use Rattle.data_agent.proofs.Staying.{amid_then}
 use Rattle.data_agent.proofs.agent.Agent.shows.Goals as goal
 
 pub shows_here-requires-clause-collected : goal.shows_here-requires-clause-collected
@@ -31,4 +31,4 @@ returns-clause-shows c = λ rules l s.
 
 pub returns-clause-amid : goal.returns-clause-amid
 returns-clause-amid c = λ rules l s.
-    amid_then c.args.self.now _ rules l s refl refl refl refl refl refl refl refl (kept_then c.args.plane.now c.args.self.now rules l.account c.requires.own s.pages c.probe_page.new.keeper c.probe_page.ensures.same)
+    amid_then c.args.self.now _ rules l s refl refl refl refl refl refl refl (kept_then c.args.plane.now c.args.self.now rules l.account c.requires.own s.pages c.probe_page.new.keeper c.probe_page.ensures.same)

@@ -41,8 +41,5 @@ returns-clause-only_faults g c = λ rules l u s0 t holds.
     only_failed c.args.self.now rules l c.args.time c.window-window.result.first.number c.window-window.result.last.number c.max-from.result x c.in_ok-looks.looks.items
     (saw_by c.args.self.now rules l u c.args.time c.window-window.result.first.number c.window-window.result.last.number c.max-from.result x z c.in_ok-looks.looks.items s w at (c.in_ok-looks.ensures.looked rules l s.stands)) t holds
 
-pub first-first-requires : goal.first-first-requires
-first-first-requires g c = let (rules, l, u, s, past) = c.requires.past in (rules, l.account, s.amid.pages)
-
 pub looks-requires-clause-stands : goal.looks-requires-clause-stands
 looks-requires-clause-stands g c = let (rules, l, u, s, past) = c.requires.past in (rules, l, (whole_of c.args.self.now rules l u c.requires.prepared.taken s).stands)
