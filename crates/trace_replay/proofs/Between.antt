@@ -1,13 +1,14 @@
 -- The lines of a trace from one place on and before another.
 use Rattle.std.proofs.Common.{ℕ, ◌≡◌, ◌≤◌, ◌<◌, ◌+◌, ◌-◌, ◌∷◌, [], ◌++◌, ◌∙◌, false, List, length, get_or, take, drop, sym, ap, refl, subst, arith, length-append, append_assoc}
 use Rattle.std.specs.List.{Contains}
-use Rattle.std.proofs.lemmas.List.{drop-take, drop-append-le, take-take, take-append-drop, length-take-le, get_or-take, get_or-drop, length-drop}
+use Rattle.std.proofs.lemmas.List.{drop-take, drop-append-le, take-take, take-append-drop, length-take-le}
 use Rattle.std.proofs.lemmas.List.Elements.{filter-append, Contains-append_left, Contains-append_right}
 use Rattle.spie_base.proofs.Membership.{has_first, has_later}
 use Rattle.spie_base.specs.declared.Sig.{Sig}
 use Rattle.trace_format.specs.declared.Line.{Line}
 use Rattle.trace_format.specs.Sound.{AreTimed, AreArchivedOnce, is_recording, records}
 use Rattle.trace_history.specs.History.{History, IsHistoryOf}
+use Rattle.trace_workers.proofs.Segments.{at_between, length_between}
 use Rattle.trace_replay.specs.Segments.{archived_in, is_barrier_line, record_count}
 use Rattle.trace_replay.proofs.Doing.{archived_same, count_same, clock_within, records_more}
 
@@ -16,7 +17,7 @@ use Rattle.trace_replay.proofs.Doing.{archived_same, count_same, clock_within, r
 less_by : (n m : ℕ) → n ≤ m → n + (m - n) ≡ m
 less_by n m l = omega arith
 
-pub between_is : {X : Type 0} (from to : ℕ) (xs : List X) → from ≤ to → to ≤ length xs → take (to - from) (drop from xs) ≡ drop from (take to xs)
+between_is : {X : Type 0} (from to : ℕ) (xs : List X) → from ≤ to → to ≤ length xs → take (to - from) (drop from xs) ≡ drop from (take to xs)
 between_is from to xs l m = sym (drop-take from (to - from) xs) ∙ ap (λ (k : ℕ). drop from (take k xs)) (less_by from to l)
 
 -- what stands before them, and they
@@ -32,18 +33,14 @@ between_behind from to xs l m =
     ap (λ (ys : List _). drop from ys) (sym (take-append-drop to xs)) ∙ drop-append-le from (take to xs) (drop to xs) (omega (arith, n, l))
     ∙ ap (λ (ys : List _). ys ++ drop to xs) (sym (between_is from to xs l m))
 
-pub length_between : {X : Type 0} (from to : ℕ) (xs : List X) → from ≤ to → to ≤ length xs → length (take (to - from) (drop from xs)) ≡ to - from
-length_between from to xs l m = length-take-le (to - from) (drop from xs) (let n = length-drop from xs in omega (arith, n, l, m))
-
 -- what holds of each of them by its place
 pub each_between : {X : Type 0} (P : X → Type 0) (from to : ℕ) (xs : List X) → from ≤ to → to ≤ length xs → ((i : ℕ) (d : X) → from ≤ i → i < to → P (get_or xs i d))
     → (x : X) → Contains (take (to - from) (drop from xs)) x → P x
 each_between P from to xs l m each x h =
     let k = h.0 in
-    let in_it : k < length (take (to - from) (drop from xs)) = h.1 in
     let n = length_between from to xs l m in
-    let at : get_or (take (to - from) (drop from xs)) k x ≡ get_or xs (from + k) x =
-    get_or-take (to - from) (drop from xs) k x (omega (arith, in_it, n)) ∙ get_or-drop from xs k x in
+    let in_it : k < length (take (to - from) (drop from xs)) = h.1 in
+    let at = at_between from to k xs x in_it in
     subst P (sym at ∙ h.2) (each (from + k) x (omega arith) (omega (arith, in_it, n, l)))
 
 last_has : {X : Type 0} (xs : List X) (y : X) → Contains (xs ++ y ∷ []) y

@@ -8,15 +8,17 @@ use Rattle.trace_format.specs.declared.Trace.{Trace}
 use Rattle.trace_format.specs.Sound.{IsSound, AreTimed, AreArchivedOnce, records}
 use Rattle.router_account.specs.Shelves.{ShelfView}
 use Rattle.trace_history.specs.History.{History, IsHistoryOf}
+use Rattle.trace_workers.specs.Records.{lines_between}
+use Rattle.trace_workers.proofs.Segments.{length_between}
 use Rattle.trace_replay.specs.declared.state.State.{State}
 use Rattle.trace_replay.specs.Agents.{Standing}
 use Rattle.trace_replay.specs.Loop.{HasDone}
-use Rattle.trace_replay.specs.Segmenting.{lines_between, IsSegment, FitSegment, IsAtSegment, DoesSegment, HasEnded, Ends, HasCut}
+use Rattle.trace_replay.specs.Segmenting.{IsSegment, FitSegment, IsAtSegment, DoesSegment, HasEnded, Ends, HasCut}
 use Rattle.trace_replay.specs.Segments.{filled, archived_in, is_barrier_line, no_line, record_count}
 use Rattle.trace_replay.specs.Standing.{Way, Stands, IsNext, Closes}
 use Rattle.trace_replay.proofs.Begun.{last_closes}
 use Rattle.trace_replay.proofs.Beside.{get_any}
-use Rattle.trace_replay.proofs.Between.{before_between, between_behind, length_between, each_between, none_of_none, length_history, records_append, records_history, timed_behind, once_before, once_behind}
+use Rattle.trace_replay.proofs.Between.{before_between, between_behind, each_between, none_of_none, length_history, records_append, records_history, timed_behind, once_before, once_behind}
 use Rattle.trace_replay.proofs.Doing.{done_closing, ready_at}
 use Rattle.trace_replay.proofs.Filled.{history_filled}
 
@@ -33,7 +35,7 @@ no_lines from to xs e = ap (λ (k : ℕ). take k (drop from xs)) (let z : to - f
 module _ {A : Type 0} (way : Way A) (stands : Standing A) (t : Trace) (start : ShelfView) (sound : IsSound t) (from to : ℕ) (is : IsSegment t from to)
     (before : List A) (old : State) (was : ShelfView) (ended : HasEnded way stands t start from before old was) where
   abbrev front : List Line
-  front = lines_between t from to
+  front = lines_between t.lines from to
 
   abbrev history : History
   history = ended.done.history

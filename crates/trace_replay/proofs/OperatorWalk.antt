@@ -4,37 +4,19 @@ use Rattle.std.specs.List.{filter}
 use Rattle.std.proofs.lemmas.Bool.{false≢true}
 use Rattle.std.proofs.lemmas.List.{take_more}
 use Rattle.std.proofs.lemmas.List.Elements.{filter-append}
-use Rattle.spie_base.specs.declared.Sig.{Sig}
 use Rattle.trace_format.specs.declared.Line.{Line}
 use Rattle.trace_format.specs.declared.Trace.{Trace}
 use Rattle.trace_format.specs.declared.What.{What}
 use Rattle.trace_format.specs.declared.What.TheVariants as what
 use Rattle.trace_format.specs.Sound.{AreArchivedOnce, FitsOnce, archived_after, is_recording}
 use Rattle.router_account.specs.Shelves.{ShelfView}
-use Rattle.trace_history.specs.History.{Event, recorded, rotated, archived, watched, History, IsEventOf, IsHistoryOf}
+use Rattle.trace_history.specs.History.{History, IsHistoryOf}
 use Rattle.trace_replay.specs.declared.state.Answer.{Answer}
 use Rattle.trace_replay.specs.Merging.{operations}
 use Rattle.trace_replay.specs.Operating.{Besides, Reads, FitsBeside, MayOperate, DoesBeside, FitsOperator, HasOperated, OperatesFrom, IsAtLine}
-use Rattle.trace_replay.specs.Segments.{archived_by, archived_in, is_barrier_line}
+use Rattle.trace_replay.specs.Segments.{archived_in}
+use Rattle.trace_replay.proofs.Doing.{archived_same}
 use Rattle.trace_replay.proofs.Filled.{moment_of}
-
-no_barrier : {X : Type 0} → true ≡ false → X
-no_barrier e = absurd (false≢true (sym e))
-
-archived_same : (sigs : List Sig) (w : What) (e : Event) (earlier : List ℕ) → is_barrier_line w ≡ false → IsEventOf sigs w e → archived_by e earlier ≡ archived_after earlier w
-archived_same sigs (what.Archive router) (archived r put kept) earlier b a = ap (λ (x : ℕ). x ∷ earlier) a
-archived_same sigs (what.Archive router) e earlier b a = absurd a
-archived_same sigs (what.Fwd router packet) (recorded hop page) earlier b a = refl
-archived_same sigs (what.Fwd router packet) e earlier b a = absurd a
-archived_same sigs (what.Xf router kind old new) (recorded hop page) earlier b a = refl
-archived_same sigs (what.Xf router kind old new) e earlier b a = absurd a
-archived_same sigs (what.Rotate router) (rotated r page) earlier b a = refl
-archived_same sigs (what.Rotate router) e earlier b a = absurd a
-archived_same sigs (what.Watch router packet) (watched r sig w) earlier b a = refl
-archived_same sigs (what.Watch router packet) e earlier b a = absurd a
-archived_same sigs (what.Tick time) e earlier b a = no_barrier b
-archived_same sigs (what.Query router packet time) e earlier b a = no_barrier b
-archived_same sigs what.End e earlier b a = no_barrier b
 
 archived_record : (w : What) (earlier : List ℕ) → is_recording w ≡ true → archived_after earlier w ≡ earlier
 archived_record (what.Fwd router packet) earlier b = refl

@@ -1,9 +1,9 @@
 -- A segment's passes are dealt: workers and operator may begin.
-use Rattle.std.proofs.Common.{ℕ, ◌≡◌, ◌≤◌, ◌<◌, ◌+◌, ◌-◌, ◌∷◌, [], ◌∙◌, All, false, List, length, get_or, drop, sym, ap, refl, subst, arith}
+use Rattle.std.proofs.Common.{ℕ, ◌≡◌, ◌≤◌, ◌<◌, ◌+◌, ◌-◌, ◌∷◌, [], ◌∙◌, All, false, List, length, get_or, sym, ap, refl, subst, arith}
 use Rattle.std.specs.Prelude.{Vec, vec_len, vec_capacity}
 use Rattle.std.specs.List.{Contains}
 use Rattle.std.specs.declared.alloc.Global.{Global}
-use Rattle.std.proofs.lemmas.List.{get_or-take, get_or-drop, take_all}
+use Rattle.std.proofs.lemmas.List.{take_all}
 use Rattle.spie_base.proofs.Membership.{has_none}
 use Rattle.spie_base.specs.declared.PageNo.{PageNo}
 use Rattle.page_gate.specs.Held.{Home, PassHeld, PlaneId}
@@ -19,18 +19,18 @@ use Rattle.trace_history.specs.History.{History}
 use Rattle.trace_history.specs.Ledgers.{ledger}
 use Rattle.trace_history.specs.Routers.{count, rules_of}
 use Rattle.trace_workers.specs.declared.Job.{Job}
-use Rattle.trace_workers.specs.Records.{IsRecordAt, turns_of, segment_places}
+use Rattle.trace_workers.specs.Records.{IsRecordAt, lines_between, turns_of, segment_places}
 use Rattle.trace_workers.specs.Jobs.{AreReady, AreShares, planes_tables, tables_of}
 use Rattle.trace_replay.specs.declared.state.State.{State}
 use Rattle.trace_replay.specs.declared.state.Answer.{Answer}
 use Rattle.trace_replay.specs.Aways.{besides, reads}
 use Rattle.trace_replay.specs.Dealt.{HaveDealt, HaveFresh, away_of, fresh_passes}
 use Rattle.trace_replay.specs.Operating.{Operates, FitsOperator, IsAtLine, HasOperated}
-use Rattle.trace_replay.specs.Segmenting.{lines_between, IsSegment, FitSegment, IsAtSegment}
+use Rattle.trace_replay.specs.Segmenting.{IsSegment, FitSegment, IsAtSegment}
 use Rattle.trace_replay.specs.Segments.{Splits, is_barrier_line}
 use Rattle.trace_replay.specs.Standing.{Stands}
 use Rattle.trace_replay.specs.Yards.{IsStanding, by_workers}
-use Rattle.trace_replay.proofs.Between.{length_between}
+use Rattle.trace_workers.proofs.Segments.{at_between, length_between}
 use Rattle.trace_replay.proofs.DealtMore.{fresh_length}
 
 pub fresh_tables : (planes : List PlaneId) (agents : List Agent) → length planes ≡ length agents → tables_of (fresh_passes planes agents) ≡ planes_tables planes
@@ -39,17 +39,17 @@ fresh_tables (plane ∷ planes) [] e = absurd (omega (arith, e))
 fresh_tables (plane ∷ planes) (agent ∷ agents) e = ap (λ (ts : List Home). plane.table ∷ ts) (fresh_tables planes agents (omega (arith, e)))
 
 -- a line of a segment is one of the trace
-pub line_there : (t : Trace) (from to i : ℕ) (d : Line) → from ≤ to → to ≤ length t.lines → i < length (lines_between t from to) → (get_or (lines_between t from to) i d ≡ get_or t.lines (from + i) d) × (i < to - from)
+pub line_there : (t : Trace) (from to i : ℕ) (d : Line) → from ≤ to → to ≤ length t.lines → i < length (lines_between t.lines from to) → (get_or (lines_between t.lines from to) i d ≡ get_or t.lines (from + i) d) × (i < to - from)
 line_there t from to i d l m h =
     let n = length_between from to t.lines l m in
     let less : i < to - from = omega (arith, h, n) in
-    (get_or-take (to - from) (drop from t.lines) i d less ∙ get_or-drop from t.lines i d, less)
+    (at_between from to i t.lines d h, less)
 
 module _ (t : Trace) (from to W : ℕ) (planes : List PlaneId) (sound : IsSound t) (is : IsSegment t from to) where
   to_in : to ≤ length t.lines
   to_in = let w = is.within in omega (arith, w)
 
-  pub lines_within : (n i : ℕ) (d : Line) → n ≡ count t → i < length (lines_between t from to) → IsWithin n (length t.sigs) (get_or (lines_between t from to) i d).what
+  pub lines_within : (n i : ℕ) (d : Line) → n ≡ count t → i < length (lines_between t.lines from to) → IsWithin n (length t.sigs) (get_or (lines_between t.lines from to) i d).what
   lines_within n i d e l =
       let at = line_there t from to i d is.order to_in l in
       let w = is.within in
@@ -58,7 +58,7 @@ module _ (t : Trace) (from to W : ℕ) (planes : List PlaneId) (sound : IsSound 
       let Q : ℕ → Type 0 = λ k. IsWithin k (length t.sigs) (get_or t.lines (from + i) d).what in
       subst P (sym at.0) (subst Q (sym e) (sound.within (from + i) d (omega (arith, m, w))))
 
-  pub lines_short : length (lines_between t from to) + from < length t.lines
+  pub lines_short : length (lines_between t.lines from to) + from < length t.lines
   lines_short = let n = length_between from to t.lines is.order to_in in let w = is.within in let o = is.order in omega (arith, n, w, o)
 
   module _ (agents0 : List Agent) (s : State) (was : ShelfView) (ready : IsAtSegment (by_workers W) StandsFor t from to agents0 s was) where
@@ -106,7 +106,7 @@ module _ (t : Trace) (from to W : ℕ) (planes : List PlaneId) (sound : IsSound 
           };
         }
 
-    pub fits_operator : FitsOperator t history (lines_between t from to)
+    pub fits_operator : FitsOperator t history (lines_between t.lines from to)
     fits_operator = record {
       within = λ i d l. lines_within (count t) i d refl l;
       inner = λ i d l.
@@ -118,11 +118,11 @@ module _ (t : Trace) (from to W : ℕ) (planes : List PlaneId) (sound : IsSound 
       few = let a = lines_short in let b = fit.begins in let c = sound.few in omega (arith, a, b, c);
     }
 
-    pub operated_first : (given : List Answer) → given ≡ [] → HasOperated besides reads t start history aways (lines_between t from to) 0 agents1 s.clock given was
+    pub operated_first : (given : List Answer) → given ≡ [] → HasOperated besides reads t start history aways (lines_between t.lines from to) 0 agents1 s.clock given was
     operated_first given none = record { ops = []; lines_are = refl; counted = omega arith; once = fit.once; stood = operates_first given none }
 
   pub operator_ready : (agents0 agents1 : List Agent) (s : State) (was : ShelfView) → IsAtSegment (by_workers W) StandsFor t from to agents0 s was → HaveDealt W (length planes) agents0 agents1 → length planes ≡ length agents0
-      → (given : List Answer) → given ≡ [] → IsAtLine besides reads t (lines_between t from to) 0 agents1 s.clock given was
+      → (given : List Answer) → given ≡ [] → IsAtLine besides reads t (lines_between t.lines from to) 0 agents1 s.clock given was
   operator_ready agents0 agents1 s was (start, history, old, fit) dealt beside given none = (
     start,
     history,

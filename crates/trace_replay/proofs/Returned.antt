@@ -36,7 +36,7 @@ use Rattle.trace_history.specs.Workers.{entry_by, share_of}
 use Rattle.trace_workers.specs.declared.Job.{Job}
 use Rattle.trace_workers.specs.Jobs.{AreShares, HaveWorked, HasPageAt, entries_at, floors_of, page_at, pages_of, planes_tables, receipts_in, tables_of}
 use Rattle.trace_workers.specs.Laws.{AreRisingTurns, AreSharesOf}
-use Rattle.trace_workers.specs.Records.{entries_by, lines_at, receipts_by, segment_places}
+use Rattle.trace_workers.specs.Records.{entries_by, lines_at, lines_between, receipts_by, segment_places}
 use Rattle.trace_workers.proofs.AllShares.{columns_are_worked, shares_are_all}
 use Rattle.trace_workers.proofs.RisingTurns.{rising_shares_rise}
 use Rattle.trace_workers.proofs.Segments.{places_are_of_records}
@@ -47,11 +47,10 @@ use Rattle.trace_replay.specs.Aways.{besides, reads}
 use Rattle.trace_replay.specs.Concluding.{HavePagesFor, IsNearby, MayAddRows, pages_for, receipts_for}
 use Rattle.trace_replay.specs.Dealt.{HaveBack, HaveDealt, HaveGathered, MayGatherAll, away_of, column_of, fresh_passes}
 use Rattle.trace_replay.specs.Operating.{HasOperated, Operates}
-use Rattle.trace_replay.specs.Segmenting.{lines_between, IsSegment, FitSegment}
+use Rattle.trace_replay.specs.Segmenting.{IsSegment, FitSegment}
 use Rattle.trace_replay.specs.Segments.{Splits, filled}
 use Rattle.trace_replay.specs.Standing.{Stands}
 use Rattle.trace_replay.specs.Yards.{by_workers}
-use Rattle.trace_replay.proofs.Between.{between_is}
 use Rattle.trace_replay.proofs.BetweenApart.{lists_kept}
 use Rattle.trace_replay.proofs.Closed.{closed_history}
 use Rattle.trace_replay.proofs.DealtMore.{fresh_at, fresh_length}
@@ -181,7 +180,7 @@ module _ (t : Trace) (from to W : ℕ) (planes : List PlaneId) (agents0 : List A
 
   module _ (agents1 agents2 : List Agent) (s : State) (was now start : ShelfView) (history : History) (old : Stands (by_workers W) StandsFor t start history [] agents0 s was)
       (dealt : HaveDealt W (length planes) agents0 agents1) (given : List Answer)
-      (operated : HasOperated besides reads t start history (λ r. away_of W (ledger (rules_of t) r history)) (lines_between t from to) (length (lines_between t from to)) agents2 s.clock given now) where
+      (operated : HasOperated besides reads t start history (λ r. away_of W (ledger (rules_of t) r history)) (lines_between t.lines from to) (length (lines_between t.lines from to)) agents2 s.clock given now) where
     abbrev stood : Operates besides reads t start history (λ r. away_of W (ledger (rules_of t) r history)) operated.ops agents2 s.clock given now
     stood = operated.stood
 
@@ -232,22 +231,22 @@ module _ (t : Trace) (from to W : ℕ) (planes : List PlaneId) (agents0 : List A
           let j = some_of jobs3 k l3 in
           get_or-map f jobs4 k j d (omega (arith, l, a)) ∙ ap (λ (v : Vec PageNo Global). v.items) (back.each k j l3).pages ∙ sym (get_or-map f jobs3 k j d l3))
 
-      same_lines : lines_at t.lines (segment_places t.lines from to) ≡ records (lines_between t from to)
+      same_lines : lines_at t.lines (segment_places t.lines from to) ≡ records (lines_between t.lines from to)
       same_lines =
           let w = is.within in
-          places_are_of_records t.lines from to (omega (arith, w)) ∙ ap (λ (ls : List Line). records ls) (sym (between_is from to t.lines is.order (omega (arith, w))))
+          places_are_of_records t.lines from to (omega (arith, w))
 
-      same_count : length (segment_places t.lines from to) ≡ length (records (lines_between t from to))
+      same_count : length (segment_places t.lines from to) ≡ length (records (lines_between t.lines from to))
       same_count = sym (length-map (segment_places t.lines from to) _) ∙ ap (λ (ls : List Line). length ls) same_lines
 
-      pub receipts_are : receipts_for t (lines_between t from to) jobs4 ≡ xs
+      pub receipts_are : receipts_for t (lines_between t.lines from to) jobs4 ≡ xs
       receipts_are =
           let R : List Line → ℕ → List (List PageNo) → List Receipt = λ ls n ps. receipts_by t.sigs ls (map (page_at ps) (below n)) in
-          let n = length (records (lines_between t from to)) in
-          ap (λ (ps : List (List PageNo)). R (records (lines_between t from to)) n ps) same_pages
+          let n = length (records (lines_between t.lines from to)) in
+          ap (λ (ps : List (List PageNo)). R (records (lines_between t.lines from to)) n ps) same_pages
           ∙ ap (λ (ls : List Line). R ls n (pages_of jobs3)) (sym same_lines) ∙ ap (λ (k : ℕ). R (lines_at t.lines (segment_places t.lines from to)) k (pages_of jobs3)) (sym same_count)
 
-      pub have_pages : HavePagesFor (lines_between t from to) jobs4
+      pub have_pages : HavePagesFor (lines_between t.lines from to) jobs4
       have_pages j l =
           let P : List (List PageNo) → Type 0 = λ ps. HasPageAt ps j in
           subst P (sym same_pages) (of_shares.read j (let e = same_count in omega (arith, l, e)))
@@ -353,6 +352,6 @@ module _ (t : Trace) (from to W : ℕ) (planes : List PlaneId) (agents0 : List A
             let fewer = rows_history (rules_of t) r history in
             let most = fit.few_records in
             let c = ap (λ (rs : List Receipt). length rs) receipts_are in
-            let n = receipts_short t.sigs (records (lines_between t from to)) (pages_for (lines_between t from to) jobs4) in
+            let n = receipts_short t.sigs (records (lines_between t.lines from to)) (pages_for (lines_between t.lines from to) jobs4) in
             omega (arith, rows, fewer, most, c, n);
       }

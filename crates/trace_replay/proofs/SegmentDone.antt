@@ -23,7 +23,7 @@ use Rattle.trace_history.specs.Routers.{RouterRules, count, rules_of}
 use Rattle.trace_history.specs.Workers.{share_of}
 use Rattle.trace_workers.specs.declared.Job.{Job}
 use Rattle.trace_workers.specs.Jobs.{AreShares, HaveWorked, pages_of, receipts_in}
-use Rattle.trace_workers.specs.Records.{entries_by}
+use Rattle.trace_workers.specs.Records.{entries_by, lines_between}
 use Rattle.trace_replay.specs.declared.state.Answer.{Answer}
 use Rattle.trace_replay.specs.declared.state.State.{State}
 use Rattle.trace_replay.specs.Aways.{besides, reads}
@@ -31,7 +31,7 @@ use Rattle.trace_replay.specs.Concluding.{AddsRows, HavePagesFor, MayAddRows, al
 use Rattle.trace_replay.specs.Dealt.{HaveBack, HaveDealt, HaveFresh, HaveGathered, MayGatherAll, away_of, fresh_passes}
 use Rattle.trace_replay.specs.Merging.{AreEvents, interleaved, operations}
 use Rattle.trace_replay.specs.Operating.{HasOperated, KeepEntries, OperatesFrom}
-use Rattle.trace_replay.specs.Segmenting.{FitSegment, IsSegment, lines_between}
+use Rattle.trace_replay.specs.Segmenting.{FitSegment, IsSegment}
 use Rattle.trace_replay.specs.Segments.{Splits, answer_of, filled}
 use Rattle.trace_replay.specs.Standing.{Stands}
 use Rattle.trace_replay.specs.Yards.{by_workers}
@@ -52,9 +52,9 @@ events_long sigs (line ∷ lines) (e ∷ es) a = let n = events_long sigs lines 
 module _ (t : Trace) (from to W : ℕ) (planes : List PlaneId) (agents0 agents1 agents2 : List Agent) (jobs1 jobs2 jobs3 : List Job) (s : State) (was now : ShelfView) (given0 given : List Answer)
     (sound : IsSound t) (is : IsSegment t from to) (some : 2 ≤ W) (long1 : length jobs1 ≡ W) (beside : length planes ≡ length agents0) (none : given0 ≡ [])
     (shares : AreShares t from to jobs1) (dealt : HaveDealt W (length planes) agents0 agents1) (fresh : HaveFresh (length planes) planes agents0 jobs1 jobs2)
-    (worked : HaveWorked t planes jobs2 jobs3) (operates : OperatesFrom besides reads t (lines_between t from to) 0 (length (lines_between t from to)) agents1 agents2 s.clock given0 given was now) where
+    (worked : HaveWorked t planes jobs2 jobs3) (operates : OperatesFrom besides reads t (lines_between t.lines from to) 0 (length (lines_between t.lines from to)) agents1 agents2 s.clock given0 given was now) where
   abbrev lines : List Line
-  lines = lines_between t from to
+  lines = lines_between t.lines from to
 
   module _ (start : ShelfView) (history : History) (old : Stands (by_workers W) StandsFor t start history [] agents0 s was) (fit : FitSegment t history from to) where
     many : length planes ≡ count t

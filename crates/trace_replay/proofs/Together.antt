@@ -26,14 +26,14 @@ use Rattle.trace_history.specs.Watched.{AreSegmentWatches}
 use Rattle.trace_history.specs.Workers.{entry_by, share_of, gathered}
 use Rattle.trace_history.proofs.Sequential.{account_router}
 use Rattle.trace_workers.specs.Laws.{AreRisingTurns}
-use Rattle.trace_workers.specs.Records.{entries_by}
+use Rattle.trace_workers.specs.Records.{entries_by, lines_between}
 use Rattle.trace_replay.specs.declared.state.State.{State}
 use Rattle.trace_replay.specs.declared.state.Answer.{Answer}
 use Rattle.trace_replay.specs.Agents.{Standing, IsHeld}
 use Rattle.trace_replay.specs.Merging.{operations, interleaved, AreEvents, history_by}
 use Rattle.trace_replay.specs.Operated.{operated, row_by, rows_at, with_records, AreTurns, AreWatchedBy}
 use Rattle.trace_replay.specs.Operating.{Besides, Reads, reads_at, Operates}
-use Rattle.trace_replay.specs.Segmenting.{lines_between, FitSegment}
+use Rattle.trace_replay.specs.Segmenting.{FitSegment}
 use Rattle.trace_replay.specs.Segments.{Splits, filled, AreInner, AreOnce, archived_in, answer_of, Pending, numbered, pending_of}
 use Rattle.trace_replay.specs.Standing.{Way, Stands, IsRight, IsRightTogether, AreLinesRight, IsKeptOn, IsPrinted, AreSplits}
 use Rattle.trace_replay.proofs.AllowedApart.{allowed_apart, splits_apart}
@@ -87,8 +87,8 @@ not_one W l = ne_eqb W 1 (let ne : W ≢ 1 = omega (arith, l) in ne)
 module _ {A V : Type 0} (way : Way A) (stands : Standing A) (besides : Besides A V) (reads : Reads A) (t : Trace) (start : ShelfView) (history : History) (aways : ℕ → V) (from to : ℕ)
     (before mid after : List A) (s s' : State) (was now : ShelfView) (ops : History) (given : List Answer) (xs : List Receipt)
     (many : 2 ≤ way.workers) (old : Stands way stands t start history [] before s was) (fit : FitSegment t history from to)
-    (ops_lines : IsHistoryOf t.sigs (operations (lines_between t from to)) ops) (stood : Operates besides reads t start history aways ops mid s.clock given now)
-    (happened : AreEvents t.sigs (records (lines_between t from to)) (events_of xs)) (routers : (x : Receipt) → Contains xs x → x.hop.router < count t)
+    (ops_lines : IsHistoryOf t.sigs (operations (lines_between t.lines from to)) ops) (stood : Operates besides reads t start history aways ops mid s.clock given now)
+    (happened : AreEvents t.sigs (records (lines_between t.lines from to)) (events_of xs)) (routers : (x : Receipt) → Contains xs x → x.hop.router < count t)
     (turns : (r : ℕ) → r < count t → AreRisingTurns way.workers r (open_at (rules_of t) r history) xs)
     (exist : (r : ℕ) → r < count t → (f : Splits) → (e : Entry) → Contains (entries_by r xs) e → e.page.number ≤ open_at (rules_of t) r (filled f ops history))
     (final : (f : Splits) (r : ℕ) (d : A) → r < count t → stands (get_or after r d) (rules_of t r) (with_records (ledger (rules_of t) r (filled f ops history)) (entries_by r xs) (rows_at r xs)) (stood.us r))
@@ -96,13 +96,13 @@ module _ {A V : Type 0} (way : Way A) (stands : Standing A) (besides : Besides A
     (shown : (f : Splits) (r page : ℕ) (sig : Sig) → reads_at reads mid r page sig → shows (rules_of t r) (with_entries (ledger (rules_of t) r (filled f ops history)) (entries_by r xs)) sig page ≡ true)
     (entries : (r : ℕ) (d : A) → r < count t → way.entries (get_or after r d) ≡ way.entries (get_or before r d) ++ flat_map (λ w. share_of way.workers w r 0 xs) (below way.workers))
     (same : length after ≡ length before)
-    (answered : HasAnswers s s' (interleaved (lines_between t from to) (map answer_of (events_of xs)) given))
-    (slice : drop from t.lines ≡ lines_between t from to ++ drop to t.lines) where
+    (answered : HasAnswers s s' (interleaved (lines_between t.lines from to) (map answer_of (events_of xs)) given))
+    (slice : drop from t.lines ≡ lines_between t.lines from to ++ drop to t.lines) where
   abbrev W : ℕ
   W = way.workers
 
   abbrev lines : List Line
-  lines = lines_between t from to
+  lines = lines_between t.lines from to
 
   by : IsBy t.sigs (operations lines) ops
   by = by_events t.sigs (operations lines) ops ops_lines

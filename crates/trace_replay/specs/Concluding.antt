@@ -27,8 +27,10 @@ abbrev pub with_rows : Ledger → List RowIn → Ledger
 with_rows l rows = record l { account = record l.account { rows = l.account.rows ++ rows } }
 
 -- each agent that is there stands for its router's ledger
-abbrev pub AllThere : {A : Type 0} → Standing A → RouterRules → (ls : ℕ → Ledger) → (us : ℕ → Unfinished) → List A → Type 0
-AllThere stands rules ls us agents = (r : ℕ) (d : _) → r < length agents → stands (slice_index_or agents r d) (rules r) (ls r) (us r)
+abbrev pub AllThere : {A : Type 0} → Standing A → RouterRules → (ls : ℕ → Ledger) → (us : ℕ → Unfinished) → List A
+    → Type 0
+AllThere stands rules ls us agents =
+    (r : ℕ) (d : _) → r < length agents → stands (slice_index_or agents r d) (rules r) (ls r) (us r)
 
 -- what a record line recorded, by the page that it entered
 abbrev pub receipt_at : Trace → Line → (page : ℕ) → Receipt
@@ -43,18 +45,21 @@ pub record IsNearby (rules : Rules) (l : Ledger) (page : ℕ) : Type 0 where
 -- the row of a record may be added
 abbrev pub MayAddRow : {A : Type 0} → Standing A → Trace → Line → (page : ℕ) → List A → Type 0
 MayAddRow stands t line page agents =
-    (rules : RouterRules) × (ls : ℕ → Ledger) × (us : ℕ → Unfinished) × AllThere stands rules ls us agents × IsWithin (length agents) (length t.sigs) line.what
+    (rules : RouterRules) × (ls : ℕ → Ledger) × (us : ℕ → Unfinished) × AllThere stands rules ls us agents
+    × IsWithin (length agents) (length t.sigs) line.what
     × IsNearby (rules (receipt_at t line page).hop.router) (ls (receipt_at t line page).hop.router) page
     × (length (ls (receipt_at t line page).hop.router).account.rows < 1000000)
 
 -- it is added
-pub record AddsRow {A : Type 0} (stands : Standing A) (t : Trace) (line : Line) (page : ℕ) (before after : List A) : Type 0 where
+pub record AddsRow {A : Type 0} (stands : Standing A) (t : Trace) (line : Line) (page : ℕ)
+    (before after : List A) : Type 0 where
   pub same : length after ≡ length before
   pub adds : (rules : RouterRules) (ls : ℕ → Ledger) (us : ℕ → Unfinished) → AllThere stands rules ls us before
       → AllThere stands rules (λ r. with_rows (ls r) (row_by r (receipt_at t line page))) us after
 
 -- the rows of some records may be added
-pub record MayAddRows {A : Type 0} (stands : Standing A) (rules : RouterRules) (ls : ℕ → Ledger) (us : ℕ → Unfinished) (xs : List Receipt) (agents : List A) : Type 0 where
+pub record MayAddRows {A : Type 0} (stands : Standing A) (rules : RouterRules) (ls : ℕ → Ledger) (us : ℕ → Unfinished)
+    (xs : List Receipt) (agents : List A) : Type 0 where
   pub there : AllThere stands rules ls us agents
   pub near : (x : Receipt) → Contains xs x → IsNearby (rules x.hop.router) (ls x.hop.router) x.page
   pub few : (r : ℕ) → length (ls r).account.rows + length xs ≤ 1000000
@@ -66,14 +71,16 @@ pub record AddsRows {A : Type 0} (stands : Standing A) (xs : List Receipt) (befo
       → AllThere stands rules (λ r. with_rows (ls r) (rows_at r xs)) us after
 
 -- the rows of all but the last records are added
-pub record HasAdded {A : Type 0} (stands : Standing A) (rules : RouterRules) (ls : ℕ → Ledger) (us : ℕ → Unfinished) (xs left : List Receipt) (agents : List A) : Type 0 where
+pub record HasAdded {A : Type 0} (stands : Standing A) (rules : RouterRules) (ls : ℕ → Ledger) (us : ℕ → Unfinished)
+    (xs left : List Receipt) (agents : List A) : Type 0 where
   pub done : List Receipt
   pub rest : done ++ left ≡ xs
   pub there : AllThere stands rules (λ r. with_rows (ls r) (rows_at r done)) us agents
 
 pub record AddsSoFar {A : Type 0} (stands : Standing A) (xs left : List Receipt) (before after : List A) : Type 0 where
   pub same : length after ≡ length before
-  pub adds : (rules : RouterRules) (ls : ℕ → Ledger) (us : ℕ → Unfinished) → MayAddRows stands rules ls us xs before → HasAdded stands rules ls us xs left after
+  pub adds : (rules : RouterRules) (ls : ℕ → Ledger) (us : ℕ → Unfinished) → MayAddRows stands rules ls us xs before
+      → HasAdded stands rules ls us xs left after
 
 -- ---- records and answers
 
@@ -101,4 +108,5 @@ HavePagesFor lines jobs = (j : ℕ) → j < length (records lines) → HasPageAt
 
 -- the routers and packets that the lines name are there
 abbrev pub AreWithin : (routers packets : ℕ) → List Line → Type 0
-AreWithin routers packets lines = (i : ℕ) (d : Line) → i < length lines → IsWithin routers packets (slice_index_or lines i d).what
+AreWithin routers packets lines =
+    (i : ℕ) (d : Line) → i < length lines → IsWithin routers packets (slice_index_or lines i d).what

@@ -26,8 +26,10 @@ away_of W l = record { out = W; since = open_page l.account.closings }
 
 -- passes were dealt of an agent, and now it stands beside them for what it stood for
 pub record IsDealer (W : ℕ) (before after : Agent) : Type 0 where
-  pub beside : (rules : Rules) (l : Ledger) (u : Unfinished) → StandsFor before rules l u → AreClosedBits rules l u → StandsBeside after rules l u (away_of W l)
-  pub floor : (rules : Rules) (l : Ledger) (u : Unfinished) → StandsFor before rules l u → before.page.number ≡ open_page l.account.closings
+  pub beside : (rules : Rules) (l : Ledger) (u : Unfinished) → StandsFor before rules l u → AreClosedBits rules l u
+      → StandsBeside after rules l u (away_of W l)
+  pub floor : (rules : Rules) (l : Ledger) (u : Unfinished) → StandsFor before rules l u
+      → before.page.number ≡ open_page l.account.closings
 
 -- the agents below i have dealt, and the others are as before
 pub record HaveDealt (W i : ℕ) (before after : List Agent) : Type 0 where
@@ -51,7 +53,8 @@ pub record HasPasses (passes : List PassHeld) (before after : Job) : Type 0 wher
 -- each job has a new pass of each router below i
 pub record HaveFresh (i : ℕ) (planes : List PlaneId) (agents : List Agent) (before after : List Job) : Type 0 where
   pub many : length after ≡ length before
-  pub each : (w : ℕ) (d : Job) → w < length before → HasPasses (take i (fresh_passes planes agents)) (slice_index_or before w d) (slice_index_or after w d)
+  pub each : (w : ℕ) (d : Job) → w < length before
+      → HasPasses (take i (fresh_passes planes agents)) (slice_index_or before w d) (slice_index_or after w d)
 
 -- an empty list with memory for a pass of each worker
 pub record IsColumn (W : ℕ) (column : Vec PassHeld Global) : Type 0 where
@@ -68,24 +71,30 @@ pub record AreColumns (W count : ℕ) (columns : List (Vec PassHeld Global)) : T
 -- what came of an agent that took in these passes
 pub record IsGatherer (before after : Agent) (passes : List PassHeld) : Type 0 where
   pub entries : entries_of after ≡ entries_of before ++ flat_map (λ (p : PassHeld). p.entries) passes
-  pub stands : (rules : Rules) (l : Ledger) (u : Unfinished) (away : Away) → StandsBeside before rules l u away → AreFrom away.since passes
+  pub stands : (rules : Rules) (l : Ledger) (u : Unfinished) (away : Away) → StandsBeside before rules l u away
+      → AreFrom away.since passes
       → (k : Ledger) → IsGathered l (flat_map (λ (p : PassHeld). p.entries) passes) k → StandsFor after rules k u
-  pub bits : (rules : Rules) (l : Ledger) (u : Unfinished) (away : Away) → StandsBeside before rules l u away → AreFrom away.since passes
+  pub bits : (rules : Rules) (l : Ledger) (u : Unfinished) (away : Away) → StandsBeside before rules l u away
+      → AreFrom away.since passes
       → (k : Ledger) → IsGathered l (flat_map (λ (p : PassHeld). p.entries) passes) k → ArePageBits rules k.account u
-  pub shown : (rules : Rules) (l : Ledger) (u : Unfinished) (away : Away) → StandsBeside before rules l u away → AreFrom away.since passes
-      → (k : Ledger) → IsGathered l (flat_map (λ (p : PassHeld). p.entries) passes) k → (page : ℕ) (sig : Sig) → AreRead before page sig → shows rules k.account sig page ≡ true
+  pub shown : (rules : Rules) (l : Ledger) (u : Unfinished) (away : Away) → StandsBeside before rules l u away
+      → AreFrom away.since passes
+      → (k : Ledger) → IsGathered l (flat_map (λ (p : PassHeld). p.entries) passes) k → (page : ℕ) (sig : Sig)
+      → AreRead before page sig → shows rules k.account sig page ≡ true
   pub rising : All (λ (p : PassHeld). IsRising p.floor p.entries) passes
 
 -- each job's last pass is of this plane, and none has a floor below a page
 pub record HaveLast (table : Home) (since : ℕ) (jobs : List Job) : Type 0 where
   pub some : HavePasses jobs
-  pub last : (w : ℕ) (d : Job) (front : List PassHeld) (p : PassHeld) → w < length jobs → (slice_index_or jobs w d).passes.items ≡ front ++ p ∷ []
+  pub last : (w : ℕ) (d : Job) (front : List PassHeld) (p : PassHeld) → w < length jobs
+      → (slice_index_or jobs w d).passes.items ≡ front ++ p ∷ []
       → (p.table ≡ table) × (since ≤ p.floor)
 
 -- an agent may take in the last pass of each job
 abbrev pub MayGather : PlaneId → Agent → List Job → Type 0
 MayGather plane agent jobs =
-    (rules : Rules) × (l : Ledger) × (u : Unfinished) × (away : Away) × StandsBeside agent rules l u away × (length jobs ≡ away.out) × HaveLast plane.table away.since jobs
+    (rules : Rules) × (l : Ledger) × (u : Unfinished) × (away : Away) × StandsBeside agent rules l u away
+    × (length jobs ≡ away.out) × HaveLast plane.table away.since jobs
 
 -- the passes of a router in the order of the jobs
 abbrev pub column_of : (d : PassHeld) → List Job → (router : ℕ) → List PassHeld
@@ -93,14 +102,19 @@ column_of d jobs r = map (λ (job : Job). slice_index_or job.passes.items r d) j
 
 -- the agents may take in the passes of all jobs
 pub record MayGatherAll (planes : List PlaneId) (agents : List Agent) (jobs : List Job) : Type 0 where
-  pub tables : (w : ℕ) (d : Job) → w < length jobs → tables_of (slice_index_or jobs w d).passes.items ≡ planes_tables planes
-  pub each : (r : ℕ) (a : Agent) → r < length agents → (rules : Rules) × (l : Ledger) × (u : Unfinished) × (away : Away) × StandsBeside (slice_index_or agents r a) rules l u away
-      × (length jobs ≡ away.out) × ((w : ℕ) (d : Job) (p : PassHeld) → w < length jobs → away.since ≤ (slice_index_or (slice_index_or jobs w d).passes.items r p).floor)
+  pub tables : (w : ℕ) (d : Job) → w < length jobs
+      → tables_of (slice_index_or jobs w d).passes.items ≡ planes_tables planes
+  pub each : (r : ℕ) (a : Agent) → r < length agents
+      → (rules : Rules) × (l : Ledger) × (u : Unfinished) × (away : Away)
+      × StandsBeside (slice_index_or agents r a) rules l u away × (length jobs ≡ away.out)
+      × ((w : ℕ) (d : Job) (p : PassHeld) → w < length jobs
+      → away.since ≤ (slice_index_or (slice_index_or jobs w d).passes.items r p).floor)
 
 -- each agent took in its router's passes, in the order of the jobs
 pub record HaveGathered (jobs : List Job) (before after : List Agent) : Type 0 where
   pub same : length after ≡ length before
-  pub each : (r : ℕ) (a : Agent) (p : PassHeld) → r < length before → IsGatherer (slice_index_or before r a) (slice_index_or after r a) (column_of p jobs r)
+  pub each : (r : ℕ) (a : Agent) (p : PassHeld) → r < length before
+      → IsGatherer (slice_index_or before r a) (slice_index_or after r a) (column_of p jobs r)
 
 -- each job has no passes left, and is else as before
 pub record HaveBack (before after : List Job) : Type 0 where
@@ -112,5 +126,8 @@ pub record HaveTaken (n done : ℕ) (jobs left : List Job) (before after : List 
   pub same : length after ≡ length before
   pub many : length left ≡ length jobs
   pub rest : (r : ℕ) (a : Agent) → r + done < n → slice_index_or after r a ≡ slice_index_or before r a
-  pub each : (r : ℕ) (a : Agent) (p : PassHeld) → n ≤ r + done → r < n → IsGatherer (slice_index_or before r a) (slice_index_or after r a) (column_of p jobs r)
-  pub passes : (w : ℕ) (d : Job) → w < length jobs → HasPasses (take (n - done) (slice_index_or jobs w d).passes.items) (slice_index_or jobs w d) (slice_index_or left w d)
+  pub each : (r : ℕ) (a : Agent) (p : PassHeld) → n ≤ r + done → r < n
+      → IsGatherer (slice_index_or before r a) (slice_index_or after r a) (column_of p jobs r)
+  pub passes : (w : ℕ) (d : Job) → w < length jobs
+      → HasPasses (take (n - done) (slice_index_or jobs w d).passes.items)
+      (slice_index_or jobs w d) (slice_index_or left w d)

@@ -29,7 +29,8 @@ AreEvents sigs _ _ = ⊥
 abbrev pub history_by : History → List Line → List Event → History
 history_by history [] events = history
 history_by history (line ∷ lines) [] = history
-history_by history (line ∷ lines) (event ∷ events) = history_by (record { line = line.number; event = event } ∷ history) lines events
+history_by history (line ∷ lines) (event ∷ events) =
+    history_by (record { line = line.number; event = event } ∷ history) lines events
 
 -- the answers to a history's lines, in order
 abbrev pub answers_of : History → List Answer

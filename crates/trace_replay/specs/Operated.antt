@@ -1,4 +1,5 @@
--- A segment that workers and an operator do beside one another: the operator's moments alone, and what the workers' records add to them.
+-- A segment that workers and an operator do beside one another: the operator's moments alone, and what the workers'
+-- records add to them.
 use Rattle.std.specs.Prelude.{ℕ, ◌≡◌, ◌⊎◌, List, [], ◌∷◌, ◌++◌, Bool, true, false, ◌==◌, if◌then◌else◌}
 use Rattle.std.specs.List.{Contains, flat_map}
 use Rattle.spie_base.specs.declared.Entry.{Entry}
@@ -52,16 +53,22 @@ AreTurns rules f history (moment ∷ ops) =
 -- for then, and where a page showed the signature by that or was read so
 abbrev pub IsAnsweredBy : (reads : (page : ℕ) → Sig → Type 0) → Rules → Ledger → (clock : ℕ) → Sig → Watch → Type 0
 IsAnsweredBy reads rules l clock sig Seen =
-    (page : ℕ) × Contains (window rules l.account clock) page × (is_missing_now rules l page ≡ false) × ((shows rules l.account sig page ≡ true) ⊎ reads page sig)
-IsAnsweredBy reads rules l clock sig Unknown = (misses rules l clock ≡ true) × (is_shown rules l l.account clock sig ≡ false)
-IsAnsweredBy reads rules l clock sig NotSeen = (misses rules l clock ≡ false) × (is_shown rules l l.account clock sig ≡ false)
+    (page : ℕ) × Contains (window rules l.account clock) page × (is_missing_now rules l page ≡ false)
+    × ((shows rules l.account sig page ≡ true) ⊎ reads page sig)
+IsAnsweredBy reads rules l clock sig Unknown =
+    (misses rules l clock ≡ true) × (is_shown rules l l.account clock sig ≡ false)
+IsAnsweredBy reads rules l clock sig NotSeen =
+    (misses rules l clock ≡ false) × (is_shown rules l l.account clock sig ≡ false)
 
-abbrev pub IsWatchedBy : (reads : (router page : ℕ) → Sig → Type 0) → RouterRules → (clock : ℕ) → (before : History) → Event → Type 0
-IsWatchedBy reads rules clock before (watched r sig answer) = IsAnsweredBy (reads r) (rules r) (ledger rules r before) clock sig answer
+abbrev pub IsWatchedBy : (reads : (router page : ℕ) → Sig → Type 0) → RouterRules → (clock : ℕ) → (before : History)
+    → Event → Type 0
+IsWatchedBy reads rules clock before (watched r sig answer) =
+    IsAnsweredBy (reads r) (rules r) (ledger rules r before) clock sig answer
 IsWatchedBy reads rules clock before _ = Unit {0}
 
 -- each watch of the operator
-abbrev pub AreWatchedBy : (reads : (router page : ℕ) → Sig → Type 0) → RouterRules → Splits → (history ops : History) → Type 0
+abbrev pub AreWatchedBy : (reads : (router page : ℕ) → Sig → Type 0) → RouterRules → Splits → (history ops : History)
+    → Type 0
 AreWatchedBy reads rules f history [] = Unit {0}
 AreWatchedBy reads rules f history (moment ∷ ops) =
     AreWatchedBy reads rules f history ops × IsWatchedBy reads rules (clock history) (filled f ops history) moment.event

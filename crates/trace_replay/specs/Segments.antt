@@ -15,6 +15,7 @@ use Rattle.trace_history.specs.History.{Event, recorded, rotated, archived, watc
 use Rattle.trace_history.specs.Receipts.{is_barrier}
 use Rattle.trace_history.specs.Report.{watch_item}
 use Rattle.trace_history.specs.Routers.{router_id}
+pub use Rattle.trace_workers.specs.Records.{no_line}
 use Rattle.trace_replay.specs.declared.state.Answer.{Answer}
 use Rattle.trace_replay.specs.declared.state.Answer.TheVariants.{Entered, Opened, Archived, Watched}
 
@@ -83,10 +84,6 @@ is_barrier_line (what.Tick time) = true
 is_barrier_line (what.Query router packet time) = true
 is_barrier_line what.End = true
 is_barrier_line _ = false
-
--- what a list of lines gives past its end
-abbrev pub no_line : Line
-no_line = record { number = 0; what = what.Fwd (record { number = 0 }) 0 }
 
 -- the number of the line at a place
 abbrev pub number_at : List Line → (place : ℕ) → ℕ

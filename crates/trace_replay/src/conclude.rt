@@ -18,14 +18,14 @@ ghost use Rattle.trace_replay.specs.Operating.{KeepEntries};
 ghost use Rattle.trace_replay.specs.Yards.{AreBeside};
 
 use crate::lines::sig_of;
-use crate::operator::{is_record, push_answer};
+use crate::operator::push_answer;
 use crate::state::Answer;
 use data_agent::Agent;
 use packet_signature::{Kind, row};
 use spie_base::{NoMemory, PageNo, RouterId};
 use std::alloc::Global;
 use trace_format::{Line, Trace, What};
-use trace_workers::{Job, page_of};
+use trace_workers::{Job, is_record, page_of};
 
 fn change_row(
     alloc: Global,

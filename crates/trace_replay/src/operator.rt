@@ -19,7 +19,7 @@ use std::alloc::Global;
 use std::sync::Wait;
 use std::thread::Threads;
 use trace_format::{Line, Trace, What};
-use trace_workers::Turnstile;
+use trace_workers::{Turnstile, is_record};
 
 // One answer more.
 pub fn push_answer(answers: &mut Vec<Answer>, answer: Answer) -> Result<(), NoMemory>
@@ -145,13 +145,6 @@ fn operation<R: Wait, H: Shelf>(
         ),
         _ => unreachable!(),
     }
-}
-
-/// Whether a line records a packet.
-pub fn is_record(what: &What) -> bool
-    ensures { result ≡ is_recording what.now }
-{
-    matches!(what, What::Fwd { .. } | What::Xf { .. })
 }
 
 // The line at a place, where it is no record.

@@ -23,9 +23,10 @@ ghost use Rattle.data_agent.specs.Standing.{StandsFor};
 ghost use Rattle.router_account.specs.Shelves.{view_of};
 ghost use Rattle.trace_history.specs.Routers.{count};
 ghost use Rattle.trace_workers.specs.Jobs.{AreFresh, AreReady, HaveWorked};
+ghost use Rattle.trace_workers.specs.Records.{lines_between};
 ghost use Rattle.trace_replay.specs.Aways.{besides, reads};
 ghost use Rattle.trace_replay.specs.Operating.{IsAtLine, KeepEntries, OperatesFrom};
-ghost use Rattle.trace_replay.specs.Segmenting.{IsSegment, IsAtSegment, DoesSegment, IsCrewOf, lines_between};
+ghost use Rattle.trace_replay.specs.Segmenting.{IsSegment, IsAtSegment, DoesSegment, IsCrewOf};
 ghost use Rattle.trace_replay.specs.Yards.{AreBeside, by_workers};
 
 use crate::conclude::{add_rows, answer_all};
@@ -134,7 +135,7 @@ fn do_lines<R: Threads + Wait + Sync, T: Turnstile, H: Shelf + Send>(
 ) -> Result<(), NoMemory>
     requires sound { IsSound trace.now }
     requires is { IsSegment trace.now from to }
-    requires lines { lines.now ≡ lines_between trace.now from to }
+    requires lines { lines.now ≡ lines_between trace.now.lines from to }
     requires some { 2 ≤ workers }
     requires few { workers ≤ 16 }
     requires jobs { AreFresh workers (length planes.now) jobs.old }

@@ -1,18 +1,12 @@
 -- One line more is dealt.
-use Rattle.std.proofs.Common.{◌≡◌, ℕ, ◌+◌, ◌<◌, ◌≤◌, List, [], ◌++◌, length, length-append, get_or, sym, ap, ap₂, ◌∙◌, arith}
+use Rattle.std.proofs.Common.{◌≡◌, ℕ, ◌+◌, ◌<◌, ◌≤◌, List, ◌++◌, length, length-append, sym, ap, ap₂, ◌∙◌, arith}
 use Rattle.trace_format.specs.declared.Line.{Line}
 use Rattle.trace_workers.specs.declared.jobs.Job.{Job}
 use Rattle.trace_workers.specs.Dealing.{HaveMore, HaveTurns, place_by}
 use Rattle.trace_workers.specs.Jobs.{KeepPasses}
-use Rattle.trace_workers.specs.Records.{turns_of, record_places, segment_places}
-use Rattle.trace_workers.proofs.Segments.{between_none, segment_more}
+use Rattle.trace_workers.specs.Records.{turns_of, segment_places}
+use Rattle.trace_workers.proofs.Segments.{segment_more}
 use Rattle.trace_workers.proofs.Turns.{turns-append}
-
-pub none_yet : (lines : List Line) (from : ℕ) (jobs : List Job) → from ≤ length lines → ((w : ℕ) (d : Job) → w < length jobs → (get_or jobs w d).places.items ≡ []) → ((w : ℕ) (d : Job) → w < length jobs → (get_or jobs w d).pages.items ≡ []) → HaveTurns lines from from jobs
-none_yet lines from jobs le none pages = record {
-  places = λ w d lt. none w d lt ∙ ap (λ ls. turns_of (length jobs) w 0 (record_places from ls)) (sym (between_none lines from le));
-  pages = pages;
-}
 
 pub count_grows : (lines : List Line) (from place n m : ℕ) → from ≤ place → place < length lines → n ≡ length (segment_places lines from place) → m ≡ n + length (place_by lines place) → m ≡ length (segment_places lines from (place + 1))
 count_grows lines from place n m le small was now = now ∙ ap (λ k. k + length (place_by lines place)) was ∙ sym (length-append (segment_places lines from place) (place_by lines place)) ∙ ap length (sym (segment_more lines from place le small))

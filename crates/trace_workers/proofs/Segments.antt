@@ -1,10 +1,18 @@
 -- The record lines of a segment, by their places.
-use Rattle.std.proofs.Common.{◌≡◌, ℕ, suc, ◌+◌, ◌<◌, ◌≤◌, Bool, cond, true, false, List, [], ◌∷◌, ◌++◌, length, take, drop, get_or, sym, refl, ap, ap₂, ◌∙◌, append_assoc, arith}
-use Rattle.std.proofs.lemmas.List.{length-take-le, length-drop, get_or-drop, get_or-take, take_more, drop-append-le, nil_from_length}
+use Rattle.std.proofs.Common.{◌≡◌, ℕ, suc, ◌+◌, ◌-◌, ◌<◌, ◌≤◌, Bool, cond, true, false, List, [], ◌∷◌, ◌++◌, length, take, drop, get_or, sym, refl, ap, ap₂, ◌∙◌, append_assoc, arith}
+use Rattle.std.proofs.lemmas.List.{length-take, length-take-le, length-drop, get_or-drop, get_or-take, take_more}
 use Rattle.trace_format.specs.Sound.{is_recording, records}
 use Rattle.trace_format.specs.declared.Line.{Line}
 use Rattle.trace_workers.specs.Records.{no_line, line_at, lines_at, lines_between, record_places, segment_places}
 use Rattle.trace_workers.specs.Laws.{PlacesAreOfRecords}
+
+-- ---- items between two places
+
+pub length_between : {X : Type 0} (from to : ℕ) (xs : List X) → from ≤ to → to ≤ length xs → length (take (to - from) (drop from xs)) ≡ to - from
+length_between from to xs l m = length-take-le (to - from) (drop from xs) (let n = length-drop from xs in omega (arith, n, l, m))
+
+pub at_between : {X : Type 0} (from to i : ℕ) (xs : List X) (d : X) → i < length (take (to - from) (drop from xs)) → get_or (take (to - from) (drop from xs)) i d ≡ get_or xs (from + i) d
+at_between from to i xs d small = get_or-take (to - from) (drop from xs) i d (let n = length-take (to - from) (drop from xs) in omega (arith, n, small)) ∙ get_or-drop from xs i d
 
 -- ---- a line more
 
@@ -15,14 +23,13 @@ places-append from (x ∷ xs) ys =
     ap (λ zs. cond (is_recording x.what) (from ∷ []) [] ++ zs) (places-append (from + 1) xs ys ∙ ap (λ n. record_places (from + 1) xs ++ record_places n ys) e)
     ∙ sym (append_assoc (cond (is_recording x.what) (from ∷ []) []) (record_places (from + 1) xs) (record_places (from + length (x ∷ xs)) ys))
 
-pub between_none : (lines : List Line) (from : ℕ) → from ≤ length lines → lines_between lines from from ≡ []
-between_none lines from le = let l = length-drop from (take from lines) in let t = length-take-le from lines le in nil_from_length (drop from (take from lines)) (omega arith)
-
 pub between_more : (lines : List Line) (from to : ℕ) → from ≤ to → to < length lines → lines_between lines from (to + 1) ≡ lines_between lines from to ++ line_at lines to ∷ []
-between_more lines from to le small = ap (drop from) (take_more lines to no_line small) ∙ drop-append-le from (take to lines) (line_at lines to ∷ []) (let t = length-take-le to lines (omega arith) in omega arith)
-
-pub length-between : (lines : List Line) (from to : ℕ) → from ≤ to → to ≤ length lines → from + length (lines_between lines from to) ≡ to
-length-between lines from to le small = let l = length-drop from (take to lines) in let t = length-take-le to lines small in omega arith
+between_more lines from to le small =
+    let l = length-drop from lines in
+    let next : (to + 1) - from ≡ (to - from) + 1 = omega arith in
+    let at : from + (to - from) ≡ to = omega arith in
+    ap (λ n. take n (drop from lines)) next ∙ take_more (drop from lines) (to - from) no_line (omega arith)
+    ∙ ap (λ (x : Line). lines_between lines from to ++ x ∷ []) (get_or-drop from lines (to - from) no_line ∙ ap (line_at lines) at)
 
 place_there : (b : Bool) (p : ℕ) → cond b (p ∷ []) [] ++ [] ≡ cond b (p ∷ []) []
 place_there true p = refl
@@ -31,7 +38,7 @@ place_there false p = refl
 pub segment_more : (lines : List Line) (from to : ℕ) → from ≤ to → to < length lines → segment_places lines from (to + 1) ≡ segment_places lines from to ++ cond (is_recording (line_at lines to).what) (to ∷ []) []
 segment_more lines from to le small =
     ap (record_places from) (between_more lines from to le small) ∙ places-append from (lines_between lines from to) (line_at lines to ∷ [])
-    ∙ ap (λ n. segment_places lines from to ++ record_places n (line_at lines to ∷ [])) (length-between lines from to le (omega arith))
+    ∙ ap (λ n. segment_places lines from to ++ record_places n (line_at lines to ∷ [])) (let n = length_between from to lines le (omega arith) in let e : from + length (lines_between lines from to) ≡ to = omega (arith, n) in e)
     ∙ ap (λ zs. segment_places lines from to ++ zs) (place_there (is_recording (line_at lines to).what) to)
 
 -- ---- the lines there
@@ -48,5 +55,4 @@ found lines (x ∷ xs) from h = found_one (is_recording x.what) lines xs from x
     (found lines xs (from + 1) (λ i small. let e : from + suc i ≡ (from + 1) + i = omega arith in h (suc i) (omega arith) ∙ ap (line_at lines) e))
 
 pub places_are_of_records : PlacesAreOfRecords
-places_are_of_records lines from to le = found lines (lines_between lines from to) from
-    (λ i small. let l = length-drop from (take to lines) in let t = length-take-le to lines le in get_or-drop from (take to lines) i no_line ∙ get_or-take to lines (from + i) no_line (omega arith))
+places_are_of_records lines from to le = found lines (lines_between lines from to) from (λ i small. at_between from to i lines no_line small)

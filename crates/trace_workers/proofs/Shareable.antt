@@ -1,8 +1,7 @@
 -- Jobs with the lines that are their turn have their shares.
-use Rattle.std.proofs.Common.{◌≡◌, ℕ, suc, ◌+◌, ◌%◌, ◌==◌, ◌<◌, ◌≤◌, Bool, cond, true, false, List, [], ◌∷◌, length, get_or, take, sym, ap, ◌∙◌, subst, arith}
+use Rattle.std.proofs.Common.{◌≡◌, ℕ, suc, ◌+◌, ◌%◌, ◌==◌, ◌<◌, ◌≤◌, Bool, cond, true, false, List, [], ◌∷◌, length, get_or, sym, ap, ◌∙◌, subst, arith}
 use Rattle.std.specs.Prelude.{All}
 use Rattle.std.proofs.lemmas.List.Elements.{All-nil, All-cons, All-head, All-tail, All-append}
-use Rattle.std.proofs.lemmas.List.{length-drop, length-take-le, get_or-drop, get_or-take}
 use Rattle.trace_format.specs.Sound.{IsWithin, IsSound, is_recording}
 use Rattle.trace_format.specs.declared.Line.{Line}
 use Rattle.trace_format.specs.declared.Trace.{Trace}
@@ -11,6 +10,7 @@ use Rattle.trace_workers.specs.declared.jobs.Job.{Job}
 use Rattle.trace_workers.specs.Dealing.{AreRoomy, HaveTurns}
 use Rattle.trace_workers.specs.Jobs.{AreShares}
 use Rattle.trace_workers.specs.Records.{no_line, line_at, IsRecordAt, turns_of, lines_between, record_places, segment_places}
+use Rattle.trace_workers.proofs.Segments.{length_between, at_between}
 
 -- what holds of all items holds of a worker's turns
 one_turn : {A : Type 0} (P : A → Type 0) (b : Bool) (x : A) → P x → All P (cond b (x ∷ []) [])
@@ -39,8 +39,8 @@ all_places t (x ∷ xs) from h le within =
 
 pub records_of : (t : Trace) (from to : ℕ) → from ≤ to → to ≤ length t.lines → All (λ (line : Line). IsWithin (count t) (length t.sigs) line.what) t.lines → All (IsRecordAt t) (segment_places t.lines from to)
 records_of t from to begins ends within =
-    let l = length-drop from (take to t.lines) in let k = length-take-le to t.lines ends in
-    all_places t (lines_between t.lines from to) from (λ i small. get_or-drop from (take to t.lines) i no_line ∙ get_or-take to t.lines (from + i) no_line (omega arith)) (omega arith) within
+    let n = length_between from to t.lines begins ends in
+    all_places t (lines_between t.lines from to) from (λ i small. at_between from to i t.lines no_line small) (omega arith) within
 
 pub shares_of : (t : Trace) (from to : ℕ) (old jobs : List Job) → from ≤ to → to ≤ length t.lines → IsSound t → HaveTurns t.lines from to old → AreRoomy old jobs → AreShares t from to jobs
 shares_of t from to old jobs begins ends sound turns roomy = let many = roomy.many in record {

@@ -1,5 +1,5 @@
 -- The record lines of a segment, what they record, and whose turn each is.
-use Rattle.std.specs.Prelude.{ℕ, ◌+◌, ◌%◌, ◌==◌, ◌≡◌, ◌<◌, if◌then◌else◌, List, [], ◌∷◌, ◌++◌, length, map, take, drop, slice_index_or, true}
+use Rattle.std.specs.Prelude.{ℕ, ◌+◌, ◌-◌, ◌%◌, ◌==◌, ◌≡◌, ◌<◌, if◌then◌else◌, List, [], ◌∷◌, ◌++◌, length, map, take, drop, slice_index_or, true}
 use Rattle.std.specs.List.{flat_map}
 use Rattle.spie_base.specs.declared.Entry.{Entry}
 use Rattle.spie_base.specs.declared.PageNo.{PageNo}
@@ -28,7 +28,7 @@ lines_at lines places = map (line_at lines) places
 
 -- the lines from a place to before another
 abbrev pub lines_between : List Line → (from to : ℕ) → List Line
-lines_between lines from to = drop from (take to lines)
+lines_between lines from to = take (to - from) (drop from lines)
 
 -- the places of the record lines among lines of which the first stands at place `from`
 abbrev pub record_places : (from : ℕ) → List Line → List ℕ

@@ -9,7 +9,7 @@ use spie_base::NoMemory;
 use trace_format::{Line, Trace, What};
 
 /// Whether a line records a packet: `fwd` and `xf`.
-fn is_record(what: &What) -> bool
+pub fn is_record(what: &What) -> bool
     ensures { result ≡ is_recording what.now }
 {
     matches!(what, What::Fwd { .. } | What::Xf { .. })

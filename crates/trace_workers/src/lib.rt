@@ -19,7 +19,7 @@ mod work;
 
 pub use columns::{draw, spread};
 pub use crew::work_all;
-pub use dealing::deal_out;
+pub use dealing::{deal_out, is_record};
 pub use jobs::{Job, open_jobs, page_of};
 pub use turnstile::{Free, Turnstile};
 pub use work::record_share;

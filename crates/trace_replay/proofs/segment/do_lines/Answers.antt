@@ -9,7 +9,7 @@ use Rattle.trace_replay.specs.Aways.{besides, reads}
 use Rattle.trace_replay.specs.Concluding.{AddsRows, HavePagesFor, MayAddRows, all_answers, receipts_for}
 use Rattle.trace_replay.specs.Merging.{operations}
 use Rattle.trace_replay.specs.Operating.{IsAtLine, OperatesFrom}
-use Rattle.trace_replay.specs.Segmenting.{lines_between}
+use Rattle.trace_workers.specs.Records.{lines_between}
 use Rattle.trace_replay.proofs.Readied.{all_standing, operator_ready, workers_ready}
 use Rattle.trace_replay.proofs.SegmentDone.{done, given_long, may_add_rows, may_gather_now, pages_now}
 use Rattle.trace_replay.proofs.segment.do_lines.Goals as goal
@@ -255,5 +255,5 @@ returns-clause-does g c = λ start history old fit.
     let back = c.gather_all.ensures in
     let a4 = c.add_rows.new.agents in
     let R : List Line → Type 0 = λ ls. AddsRows StandsFor (receipts_for t ls j4) a3 a4 in
-    let answers = c.in_ok-answer_all.ensures ∙ ap (λ (ls : List Line). s.answers.items ++ all_answers ls j4 c.deref.result.now) L ∙ ap (λ (xs : List Answer). s.answers.items ++ all_answers (lines_between t from to) j4 xs) c.deref.ensures.value in
+    let answers = c.in_ok-answer_all.ensures ∙ ap (λ (ls : List Line). s.answers.items ++ all_answers ls j4 c.deref.result.now) L ∙ ap (λ (xs : List Answer). s.answers.items ++ all_answers (lines_between t.lines from to) j4 xs) c.deref.ensures.value in
     done t from to W planes a0 a1 a2 j1 j2 j3 s was now g0 g1 c.requires.sound c.requires.is c.requires.some long1 c.requires.beside.count c.requires.given out.shares dealt.dealt dealt.passes e.workers operates start history old fit a3 j4 back.gathered back.jobs c.entries_exist.ensures a4 _ (subst R L c.in_ok-add_rows.ensures.rows) dealt.entries e.entries c.in_ok-add_rows.ensures.entries refl refl refl refl answers
