@@ -114,6 +114,19 @@ def chains(out, queries):
     out.write("end\n")
 
 
+def many_packets(out, records):
+    """Records of 30,000 packets at four routers, 60,000 packets in all, and 256 queries."""
+    changes(out, records, "fwd")
+
+
+def long_packets(out, packets):
+    """Packets of 500 bytes, one record, and one query."""
+    front(out, 1)
+    for number in range(packets):
+        out.write("packet 450001f4%s%s\n" % (packet(number)[8:], "%02x" % (number % 256) * 472))
+    out.write("fwd r0 0\nquery r0 0 0\nend\n")
+
+
 def timed(command, source):
     """Seconds of processor time and peak memory in bytes of one run."""
     with open(source, "rb") as stdin, open(os.devnull, "wb") as stdout:
@@ -150,6 +163,7 @@ def main():
     cases += [("ticks 10^6", ticks, 10 ** 6), ("watches 10^6", watches, 10 ** 6), ("rotations 4096", rotations, 4096)]
     cases += [("xf 10^%d" % power, changes, 10 ** power) for power in (4, 5, 6)]
     cases += [("queries %d" % count, chains, count) for count in (16, 64, 256)]
+    cases += [("60,000 packets", many_packets, 10 ** 6), ("long packets", long_packets, 62000)]
     with tempfile.TemporaryDirectory() as folder:
         for name, make, count in cases:
             source = os.path.join(folder, "trace")
