@@ -70,12 +70,12 @@ behind_takes kind zero bytes after x least most front e =
     let a = bind_ok (bytes_in 4 after) (λ old. Ok (direct_made old)) x e in
     let t = bytes_take 4 after a.0 front.rest_fits a.1 in
     subst (λ (y : RowData × List ℕ). TakesOld kind bytes y) (ok_is (direct_made a.0) x a.2)
-    (record { takes = Takes-then bytes (0 ∷ []) after a.0.0 a.0.1 front t.takes; allowed = frag_is kind least; plain = t.len })
+    (record { takes = Takes-then bytes (0 ∷ []) after a.0.0 a.0.1 front t.takes; allowed = frag_is kind least; plain = (t.len, t.fits) })
 behind_takes kind (suc zero) bytes after x least most front e =
     let a = bind_ok (bytes_in 28 after) (λ old. Ok (indirect_made old)) x e in
     let t = bytes_take 28 after a.0 front.rest_fits a.1 in
     subst (λ (y : RowData × List ℕ). TakesOld kind bytes y) (ok_is (indirect_made a.0) x a.2)
-    (record { takes = Takes-then bytes (1 ∷ []) after a.0.0 a.0.1 front t.takes; allowed = tt; plain = t.len })
+    (record { takes = Takes-then bytes (1 ∷ []) after a.0.0 a.0.1 front t.takes; allowed = tt; plain = (t.len, t.fits) })
 behind_takes kind (suc (suc flag)) bytes after x least most front e = absurd (omega (arith, most))
 
 pub old_takes : (kind : Kind) (bytes : List ℕ) (x : RowData × List ℕ) → IsBytes bytes → old_at kind bytes ≡ Ok x → TakesOld kind bytes x
@@ -99,11 +99,11 @@ old_again kind (Direct old) rest allowed plain =
     let least : least_flag kind ≤ 0 = subst (λ (k : Kind). least_flag k ≤ 0) (sym allowed) (omega arith) in
     let flag : number_in 1 (least_flag kind) 1 (0 ∷ (old ++ rest)) ≡ Ok (0, old ++ rest) = number_again 1 (least_flag kind) 1 0 (old ++ rest) least (omega arith) (omega arith) in
     ap (λ (r : Result (ℕ × List ℕ) ℕ). r >>= λ flag. old_in flag.0 flag.1) flag
-    ∙ ap (λ (r : Result (List ℕ × List ℕ) ℕ). r >>= λ x. Ok (direct_made x)) (bytes_again 4 old rest plain)
+    ∙ ap (λ (r : Result (List ℕ × List ℕ) ℕ). r >>= λ x. Ok (direct_made x)) (bytes_again 4 old rest plain.0)
 old_again kind (Indirect old) rest allowed plain =
     let flag : number_in 1 (least_flag kind) 1 (1 ∷ (old.bytes ++ rest)) ≡ Ok (1, old.bytes ++ rest) = number_again 1 (least_flag kind) 1 1 (old.bytes ++ rest) (least_most kind) (omega arith) (omega arith) in
     ap (λ (r : Result (ℕ × List ℕ) ℕ). r >>= λ flag. old_in flag.0 flag.1) flag
-    ∙ ap (λ (r : Result (List ℕ × List ℕ) ℕ). r >>= λ x. Ok (indirect_made x)) (bytes_again 28 old.bytes rest plain)
+    ∙ ap (λ (r : Result (List ℕ × List ℕ) ℕ). r >>= λ x. Ok (indirect_made x)) (bytes_again 28 old.bytes rest plain.0)
 
 -- ---- a row
 

@@ -1,5 +1,5 @@
 -- The one spelling of a record. Numbers are big-endian.
-use Rattle.std.specs.Prelude.{ℕ, ◌^◌, ◌<◌, ◌≤◌, ◌≡◌, List, [], ◌∷◌, ◌++◌, length}
+use Rattle.std.specs.Prelude.{ℕ, ◌^◌, ◌<◌, ◌≤◌, ◌≡◌, List, [], ◌∷◌, ◌++◌, length, slice_index}
 use Rattle.std.specs.List.{flat_map, All}
 use Rattle.std.specs.Int.{w32, w64, to_be_bytes}
 use Rattle.spie_base.specs.declared.PageNo.{PageNo}
@@ -87,10 +87,14 @@ pub record IsRecord (bytes : List ℕ) (value : Record) : Type 0 where
   pub fits : Fits value
   pub spells : bytes ≡ spelled value
 
--- what a value of these types always is, where a list or a number of a model need not be
+-- what a value of these types always is, where a list or a number of a model need not be: without it, 1, 0 and 0, 256 would
+-- have one digest
+abbrev pub AreBytes : List ℕ → Type 0
+AreBytes bytes = (i : ℕ) → slice_index bytes i < 256
+
 abbrev pub IsPlainData : RowData → Type 0
-IsPlainData (Direct old) = length old ≡ 4
-IsPlainData (Indirect old) = length old.bytes ≡ 28
+IsPlainData (Direct old) = (length old ≡ 4) × AreBytes old
+IsPlainData (Indirect old) = (length old.bytes ≡ 28) × AreBytes old.bytes
 
 pub record IsPlainRow (row : Row) : Type 0 where
   pub key : row.key < 2 ^ 64

@@ -5,7 +5,7 @@
 // behind the last place are those of pages that stand in slots.
 ghost use Rattle.std.specs.Prelude.{◌≡◌, ◌<◌, ◌≤◌, ◌+◌, ◌-◌, ◌^◌, ◌++◌, ◌∷◌, [], ℕ, IfOk, OnOk, OnErr, length};
 ghost use Rattle.spie_base.specs.Shapes.{AreInRange, shape_of};
-ghost use Rattle.archive_record.specs.Spelling.{IsPlainRow};
+ghost use Rattle.archive_record.specs.Spelling.{AreBytes, IsPlainRow};
 ghost use Rattle.spie_base.specs.declared.Rules.{Rules as TheRules};
 ghost use Rattle.page_catalogue.specs.Pages.{open_page};
 ghost use Rattle.page_gate.specs.Held.{PlaneId};
@@ -47,16 +47,22 @@ pub struct Agent {
 }
 
 // Bytes have their length by their type.
+fn are_bytes(bytes: &[u8])
+    ensures { AreBytes bytes.now }
+{}
+
 fn has_four(bytes: &[u8; 4])
-    ensures { length bytes.now ≡ 4 }
+    ensures length { length bytes.now ≡ 4 }
+    ensures bytes { AreBytes bytes.now }
 {
-    let _all = &bytes[..4];
+    are_bytes(&bytes[..4]);
 }
 
 fn has_all(bytes: &[u8; 28])
-    ensures { length bytes.now ≡ 28 }
+    ensures length { length bytes.now ≡ 28 }
+    ensures bytes { AreBytes bytes.now }
 {
-    let _all = &bytes[..28];
+    are_bytes(&bytes[..28]);
 }
 
 // A row fits in a record, by its type.

@@ -305,8 +305,8 @@ get_or-words_in (x ∷ xs) (suc i) v e = get_or-words_in xs i v e
 
 -- ---- what the words of a quiet slot are
 
-pub narrow : (shape : PageShape) → IsShape shape → width shape ≤ 1024
-narrow shape r = let a = r.n_most in let e : shape.n - 6 ≤ 10 = omega arith in pow_mono e
+pub narrow : (shape : PageShape) → IsShape shape → width shape ≤ 2 ^ 14
+narrow shape r = let a = r.n_most in let e : shape.n - 6 ≤ 14 = omega arith in pow_mono e
 
 module _ (m : CoreData) (h : Holds m) (s next : ℕ) (near : s < 4) (quiet : (slot_in m.desk s).phase ≡ Quiet next) where
   abbrev page : ℕ

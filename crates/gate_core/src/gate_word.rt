@@ -52,13 +52,13 @@ pub fn gate_at(slot: u8) -> usize
     FIRST_GATE + usize::from(slot)
 }
 
-/// How many words the bits of a slot fill, 1 to 1024.
+/// How many words the bits of a slot fill, 1 to 16,384.
 pub fn width(shape: &PageShape) -> u32
     requires n_least { N_LEAST ≤ shape.now.n }
     requires n_most { shape.now.n ≤ N_MOST }
     ensures exact { result ≡ width shape.now }
     ensures some { 1 ≤ result }
-    ensures most { result ≤ 1024 }
+    ensures most { result ≤ 16384 }
 {
     1 << (shape.n - N_LEAST)
 }

@@ -96,7 +96,7 @@ impl CoreData {
         requires near { ForSome slot (λ s. s < SLOTS) }
         requires within { from ≤ width self.now.shape }
         ensures words { result.now ≡ live_from (core_of self.now) slot from }
-        ensures few { length result.now ≤ 1024 }
+        ensures few { length result.now ≤ 16384 }
     {
         let Some(slot) = slot else {
             return &[];

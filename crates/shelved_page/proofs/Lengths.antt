@@ -26,8 +26,8 @@ words_length [] = refl
 words_length (w ∷ ws) = length-append (to_be_bytes w64 w) (flat_map (to_be_bytes w64) ws) ∙ (let r = words_length ws in let e = eight w in omega arith)
 
 data_length : (d : RowData) → IsPlainData d → length (spelled_data d) ≤ 29
-data_length (Direct old) h = omega arith
-data_length (Indirect old) h = omega arith
+data_length (Direct old) h = let len = h.0 in omega arith
+data_length (Indirect old) h = let len = h.0 in omega arith
 
 row_length : (row : Row) → IsPlainRow row → length (spelled_row row) ≤ 38
 row_length row plain =

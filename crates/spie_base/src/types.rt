@@ -7,7 +7,7 @@ pub const K_MOST: u8 = 8;
 pub const N_LEAST: u8 = 6;
 
 /// The greatest number of bits of a position. The greatest page has 2^16 of them, 8 KiB.
-pub const N_MOST: u8 = 16;
+pub const N_MOST: u8 = 20;
 
 /// The signature of a packet: the header bytes that no router changes on the way, and eight
 /// bytes of payload. Signatures are ordered by their bytes.

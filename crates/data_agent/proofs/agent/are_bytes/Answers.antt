@@ -1,0 +1,5 @@
+use Rattle.std.proofs.Common.{ℕ, ◌<◌, arith}
+use Rattle.data_agent.proofs.agent.are_bytes.Goals as goal
+
+pub returns : goal.returns
+returns c = λ i. omega (arith, c.type_inv.bytes i)

@@ -1,6 +1,0 @@
--- A value of no bytes owns nothing, so it may go to any thread.
-use denote.Param.Send.{IsSend}
-use Rattle.topology.specs.contracts.link_order.LinkOrder.{the_row}
-
-pub send : IsSend the_row
-send = record { owned = λ d vs. ((λ vss. (tt, tt)), tt); leaving = λ k f vs. tt }
