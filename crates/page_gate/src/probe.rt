@@ -82,7 +82,7 @@ impl Plane {
     /// one after another, and stops at the first that is not set; nothing is copied. With no pass out the answer is
     /// exact. Beside passes each read was true when it was made: a false tells that the keeper's entries don't have all
     /// marks, and a true may be of records that are under way. Takes no memory. Costs k positions and at most k loads;
-    /// 8·k words of the generator more, where its last record or probe in this slot was in another page.
+    /// 8·k words of the generator more, where the keeper's last record or probe in this slot was in another page.
     pub fn probe(&self, keeper: &mut Keeper, page: PageNo, sig: &Sig) -> bool
         requires plane { keeper.old.table ≡ self.now.table }
         requires stands { HasPage (phase_with keeper.old.view.duties page.number) }
