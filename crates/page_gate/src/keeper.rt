@@ -19,8 +19,8 @@ pub struct Keeper {
     pub(crate) seat: Seat<(), View>,
     pub(crate) slots: [Slot; 4],
     pub(crate) out: u32,
-    // Of the page in which it recorded last.
-    pub(crate) hashes: Option<PageHashes>,
+    // Of each slot the hash functions of the page that was recorded or probed there last.
+    pub(crate) hashes: [Option<PageHashes>; 4],
 }
 
 impl Model for Keeper {

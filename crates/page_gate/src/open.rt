@@ -31,7 +31,7 @@ fn first_keeper(seat: Seat<(), View>) -> Keeper
         seat,
         slots: [open, free, free, free],
         out: 0,
-        hashes: None,
+        hashes: [None, None, None, None],
     }
 }
 

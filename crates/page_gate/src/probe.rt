@@ -82,7 +82,7 @@ impl Plane {
     /// one after another, and stops at the first that is not set; nothing is copied. With no pass out the answer is
     /// exact. Beside passes each read was true when it was made: a false tells that the keeper's entries don't have all
     /// marks, and a true may be of records that are under way. Takes no memory. Costs k positions and at most k loads;
-    /// 8·k words of the generator more, where the keeper's last record or probe was in another page.
+    /// 8·k words of the generator more, where the keeper's last record or probe in this slot was in another page.
     pub fn probe(&self, keeper: &mut Keeper, page: PageNo, sig: &Sig) -> bool
         requires plane { keeper.old.table ≡ self.now.table }
         requires stands { HasPage (phase_with keeper.old.view.duties page.number) }
@@ -94,7 +94,12 @@ impl Plane {
         ensures met { IsMet self.now.shape keeper.new.view }
     {
         let slot = slot_with(&keeper.slots, page.number);
-        let marks = marks_in(&mut keeper.hashes, &self.words.shape, page, sig);
+        let marks = marks_in(
+            &mut keeper.hashes[usize::from(slot)],
+            &self.words.shape,
+            page,
+            sig,
+        );
         self.words
             .are_set(&mut keeper.seat, slot, page, sig, &marks)
     }

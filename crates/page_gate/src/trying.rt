@@ -35,7 +35,7 @@ impl Plane {
     /// The keeper's own record, in the open page, where no pass is out. Takes no memory. Costs k positions and k + 1 loads
     /// where all marks are set already, as they are of a signature that the page has; else k positions, at most k loads up
     /// to the first mark that is not set, and then a load, a fetch-add, k fetch-ors and a fetch-sub. 8·k words of the
-    /// generator more, where the keeper's last record or probe was in another page.
+    /// generator more, where the keeper's last record or probe in this slot was in another page.
     pub fn record_alone(&self, keeper: &mut Keeper, sig: &Sig) -> PageNo
         requires plane { keeper.old.table ≡ self.now.table }
         requires alone { keeper.old.view.duties.out ≡ 0 }
@@ -47,7 +47,12 @@ impl Plane {
         let page = PageNo {
             number: keeper.slots[usize::from(slot)].page,
         };
-        let marks = marks_in(&mut keeper.hashes, &self.words.shape, page, sig);
+        let marks = marks_in(
+            &mut keeper.hashes[usize::from(slot)],
+            &self.words.shape,
+            page,
+            sig,
+        );
         self.words
             .record_or_repeat(&mut keeper.seat, slot, page, sig, &marks);
         page
