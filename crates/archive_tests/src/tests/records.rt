@@ -22,9 +22,6 @@ const LARGE_HEAD: [u8; 40] = [
     0, 0, 0, 0, 0, 0, 0, 0, 0, 0, 0, 0, 0,
 ];
 
-// 2^20 bits.
-const LARGE: usize = 40 + 131_072;
-
 // n, and the place of the refusal behind `SPB2` where the words are not there: `SPB1` has n from 6 to 16, and `SPB2`
 // from 17 to 20.
 const BAD_LARGE: [(u8, usize); 5] = [(6, 13), (16, 13), (17, 40), (20, 40), (21, 13)];
@@ -120,13 +117,21 @@ fn decodes_and_encodes(rt: HostRuntime) -> Result<(), Fail> {
     Ok(())
 }
 
-// The greatest page: its record is read, and is encoded as it was.
+// A head, so many bytes 0, and a byte 1. It has no clause, so that nothing of it is computed where the tests are proved.
+fn ends_in_one(alloc: Global, head: &[u8], zeros: usize) -> Result<Vec<u8>, AllocError> {
+    let mut bytes = Vec::from_slice(alloc, head)?;
+    for _ in 0..zeros {
+        bytes.push(0)?;
+    }
+    bytes.push(1)?;
+    Ok(bytes)
+}
+
+// The greatest page, of 2^20 bits: its record is read, and is encoded as it was.
 #[test]
 fn positions_and_records_at_20(rt: HostRuntime) -> Result<(), Fail> {
     let alloc = rt.alloc();
-    let mut bytes = vec![in alloc; 0u8; LARGE]?;
-    bytes[..40].copy_from_slice(&LARGE_HEAD);
-    bytes[LARGE - 1] = 1;
+    let bytes = ends_in_one(alloc, &LARGE_HEAD, 131_071)?;
     match decode(alloc, &bytes) {
         Ok(record) => {
             if let Record::Bits(large) = &record {
