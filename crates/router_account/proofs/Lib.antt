@@ -1,2 +1,3 @@
+mod Examples
 pub mod PageSets
 pub mod Shuffled
