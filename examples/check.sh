@@ -72,7 +72,7 @@ done
 check "wrong arguments" 2 $?
 says "wrong arguments" "usage: spie replay W"
 
-printf 'spie-trace 2\n' | "$spie" replay 1 > "$out" 2> "$err"
+printf 'spie-trace 4\n' | "$spie" replay 1 > "$out" 2> "$err"
 check "another version" 3 $?
 says "another version" "spie: line 1: a field is not of its form, or out of its range"
 [ "$(cat "$out")" = "refused 1 field" ] || { echo "another version: another refusal"; failed=1; }
