@@ -1,2 +1,3 @@
+pub mod LaterReads
 pub mod PageSets
 pub mod Shuffled
