@@ -46,4 +46,5 @@ pub mod Sums
 pub mod TakenMore
 pub mod Texts
 pub mod Together
+pub mod Touched
 pub mod Within
