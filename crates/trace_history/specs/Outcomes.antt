@@ -94,3 +94,23 @@ fault_marks routers (moment ∷ history) = fault_marks routers history + fault_m
 -- each mark has a failed call of its own
 abbrev pub ArePaid : (routers : ℕ) → History → (before now : ℕ) → Type 0
 ArePaid routers history before now = RoseBy (fault_marks routers history) before now
+
+-- no router has a page that was left
+abbrev pub AreNoneLeft : (routers : ℕ) → (left : ℕ → List ℕ) → Type 0
+AreNoneLeft routers left = (r : ℕ) → r < routers → left r ≡ []
+
+-- no page was kept or left at a line, nor was one unreadable for a fault of the shelf
+abbrev pub IsFaultless : (routers : ℕ) → Event → Type 0
+IsFaultless routers (archived r put kept) = kept ≡ []
+IsFaultless routers (ticked time left) = AreNoneLeft routers left
+IsFaultless routers (queried query left) = AreNoneLeft routers left × ((r : ℕ) → r < routers → failures (query.reads r) ≡ 0)
+IsFaultless routers (ended left) = AreNoneLeft routers left
+IsFaultless routers _ = Unit {0}
+
+abbrev pub AreFaultless : (routers : ℕ) → History → Type 0
+AreFaultless routers [] = Unit {0}
+AreFaultless routers (moment ∷ history) = AreFaultless routers history × IsFaultless routers moment.event
+
+-- no page of a query was unreadable
+abbrev pub HasNoneUnread : (routers : ℕ) → (after : History) → QueryRun → Type 0
+HasNoneUnread routers after query = (r : ℕ) → r < routers → (query.reads r).unread ≡ []

@@ -250,7 +250,7 @@ module _ {A S : Type 0} (way : Way A) (stands : Standing A) (shown : S → Shown
       left = lefts_of barriers;
       sequential = (alone_of way.workers t G [] alone events_right.lines).sequential (λ r. no_split);
       watched = (alone_of way.workers t G [] alone events_right.lines).watched (λ r. no_split);
-      done = possible way.workers t upto G (λ r. nothing_unfinished) start now (before, line, last, refl, event_is, history_of) events_right shelf_after;
+      done = possible way.workers t upto G (λ r. nothing_unfinished) start now (before, line, last, refl, event_is, history_of) refl events_right shelf_after;
       count_is = sees.count ∙ count_after;
       each = λ r d l.
           let P : S → Type 0 = λ x. IsSightAt (rules_of t) G query r (shown x) (told x) in

@@ -23,7 +23,7 @@ use Rattle.data_agent.specs.declared.Barrier.{Barrier}
 use Rattle.data_agent.specs.Calls.{closing_of, marks_of}
 use Rattle.trace_history.specs.declared.Totals.{Totals}
 use Rattle.trace_history.specs.History.{Event, recorded, rotated, archived, watched, ticked, queried, ended, Moment, History, IsEventOf, clock}
-use Rattle.trace_history.specs.Ledgers.{ledger}
+use Rattle.trace_history.specs.Ledgers.{covers, ledger}
 use Rattle.trace_history.specs.Outcomes.{IsAllowedEvent, AreAllLeft, IfQuery, HasSameDigests, IsReadQuery, IsReadDuring, IsTrueQuery, HasOnlyFaults, fault_marks, fault_marks_by}
 use Rattle.trace_history.specs.Receipts.{is_barrier, IsInTurn}
 use Rattle.trace_history.specs.Report.{AreItems, text_of, closing_items, closed_items, left_items}
@@ -40,7 +40,7 @@ use Rattle.trace_replay.specs.Yards.{AllKeepEntries}
 use Rattle.trace_replay.specs.Standing.{Way, Stands, IsNext, AreFew, IsPrinted, IsRight, IsKeptOn, AreSplits, pending_at}
 use Rattle.trace_replay.proofs.Answered.{right_closed}
 use Rattle.trace_replay.proofs.Gathering.{gathered_closed}
-use Rattle.trace_replay.proofs.Filled.{moment_of, clock_filled, forward_filled, length_filled}
+use Rattle.trace_replay.proofs.Filled.{moment_of, clock_filled, forward_filled, length_filled, up_filled}
 use Rattle.trace_replay.proofs.Inner.{late_by, room_at, stands_at}
 use Rattle.trace_replay.proofs.Numbered.{answers_back}
 use Rattle.trace_replay.proofs.Named.{all_of}
@@ -49,6 +49,7 @@ use Rattle.trace_replay.proofs.Passed.{ledger_ticked, ledger_ended, items_filled
 use Rattle.trace_replay.proofs.Passing.{holds_same}
 use Rattle.trace_replay.proofs.Reported.{answered_length, few_longer, text_whole}
 use Rattle.trace_replay.proofs.Quiet.{AreQuiet, quiet_append, quiet_cons, quiet_flat_map, quiet_pending, quiet_left, quiet_closing, totals_quiet, flat_map_same}
+use Rattle.trace_replay.proofs.Touched.{covered_more}
 use Rattle.trace_replay.proofs.Sums.{rose_add, rose_less, sum_none, sum_less, sum_add, some_of}
 
 -- ---- before the barrier
@@ -209,6 +210,17 @@ module _ {A : Type 0} (way : Way A) (stands : Standing A) (t : Trace) (start : S
             bits = λ x h. absurd (has_none x h);
             true_bits = λ x h. absurd (has_none x h);
           };
+      untouched = λ tells f' hyp name apart.
+          let told : was.tells ≡ true = old.shelf.still ∙ tells in
+          let r : ℕ = name.router.number in
+          let N : ℕ → Type 0 = λ n. r < n in
+          let P : List ℕ → Type 0 = λ pages. Contains pages name.page.number in
+          same (all.still ∙ told) name
+          ∙ all.untouched told (rules_of t) before_of old.us (old.agents_stand f) name
+          (λ is.
+          let l : r < count t = subst N old.count_is is.router in
+          apart (record { router = l; page = subst P (ap (λ (x : Ledger). x.covered_before) (sym (link r l)) ∙ ap (λ (h : History). covers r h) (up_filled f [] G tt is_b)) is.page }))
+          ∙ old.shelf.untouched tells f splits_ok name (λ is. apart (covered_more (count t) line event F name is));
     }
 
     -- the agents and the shelf may have been asked further, and stand for the same

@@ -47,4 +47,5 @@ pub mod Sums
 pub mod TakenMore
 pub mod Texts
 pub mod Together
+pub mod Touched
 pub mod Within
