@@ -26,10 +26,10 @@ pub record IsCoveredName (routers : ℕ) (history : History) (name : ShelfName) 
   pub page : Contains (covers name.router.number history) name.page.number
 
 -- what a history says of the shelf. For each page that was kept, left, or failed to be read a call of it failed, and
--- each query read it between the replay's start and its end. Where it tells what stands there, all that was read back
--- is what was recorded, nothing but its faults made pages
--- unreadable, and it holds the true records of the pages that were put and have not expired, and no name of the others
--- that were covered and not left. Each name that is none of a covered page has what it had before
+-- each query read it between the replay's start and its end. Where it tells what stands there: all that was read back
+-- is what was recorded, nothing but its faults made pages unreadable, and it holds the true records of the pages that
+-- were put and have not expired, and no name of the others that were covered and not left. Each name that is none of a
+-- covered page has what it had before
 pub record IsShelfOf (t : Trace) (before after : ShelfView) (history : History) : Type 0 where
   pub paid : ArePaid (count t) history before.faults after.faults
   pub during : AreReadDuring (count t) before after history
