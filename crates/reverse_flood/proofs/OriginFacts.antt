@@ -5,6 +5,7 @@ use Rattle.std.proofs.lemmas.List.{map-append, take_more}
 use Rattle.std.proofs.lemmas.List.Elements.{filter-append}
 use Rattle.spie_base.specs.declared.Sig.{Sig}
 use Rattle.spie_base.specs.declared.RouterId.{RouterId}
+use Rattle.topology.specs.declared.links.Link.{Link}
 use Rattle.topology.specs.Layout.{is_linked}
 use Rattle.reverse_flood.specs.declared.graphs.Node.{Node}
 use Rattle.reverse_flood.specs.declared.graphs.Edge.{Edge}
@@ -63,7 +64,7 @@ ways_next test down origins near i r d start before after l is so_far more =
     ∙ ap (λ (x : List Node). start ++ map (edge_from down) (filter test x)) (sym (flat_map_next (steps_at origins) near i r d l is))
 
 -- the steps of all linked routers
-pub steps_same : (links : List (ℕ × ℕ)) (router : ℕ) (near : List RouterId) (origins : List Origin) → ((q : RouterId) → Contains near q ↔ IsTrue (is_linked links router q.number)) → (n : Node) → Contains (flat_map (steps_at origins) near) n ↔ (IsTrue (is_linked links router n.router.number) × IsSigOf origins n)
+pub steps_same : (links : List Link) (router : ℕ) (near : List RouterId) (origins : List Origin) → ((q : RouterId) → Contains near q ↔ IsTrue (is_linked links router q.number)) → (n : Node) → Contains (flat_map (steps_at origins) near) n ↔ (IsTrue (is_linked links router n.router.number) × IsSigOf origins n)
 steps_same links router near origins linked n =
     let Near : RouterId → Type 0 = λ r. Contains near r in
     let At : Node → Type 0 = λ m. Contains (steps_at origins n.router) m in (
@@ -152,7 +153,7 @@ inner_next p down router os i d start before after l so_far cases =
     cases
 
 -- by the origins of a net, and by a test that agrees at routers that are linked
-pub adds_ways : (net : Net) (links : List (ℕ × ℕ)) (p q : Node → Bool) (down : Node) (f : Sig → Option ℕ) (sigs : List Sig) (os : List Origin) (before after : List Edge) → net.linked ≡ is_linked links → sigs ≡ net.origins down → os ≡ map (λ s. record { sig = s; row = f s }) sigs
+pub adds_ways : (net : Net) (links : List Link) (p q : Node → Bool) (down : Node) (f : Sig → Option ℕ) (sigs : List Sig) (os : List Origin) (before after : List Edge) → net.linked ≡ is_linked links → sigs ≡ net.origins down → os ≡ map (λ s. record { sig = s; row = f s }) sigs
     → ((n : Node) → IsTrue (is_linked links down.router.number n.router.number) → p n ≡ q n) → AppendsWays links p down os before after → AddsWays net q down before after
 adds_ways net links p q down f sigs os before after linked origins is agree a = record {
   steps = a.steps;

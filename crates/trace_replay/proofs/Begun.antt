@@ -55,7 +55,7 @@ stands_begun way stands t agents s now count_is first empty begun = record {
   agents_stand = λ f. record { each = λ r d l. first r d (subst (λ (n : ℕ). r < n) count_is l); numbered = λ r. refl };
   ordered = record { inner = tt; once = tt; barred = tt; forward = tt };
   gathered_are = λ r d l. empty r d l ∙ sym (worked_none way.workers r);
-  right = record { lines = right_begun (way.workers == 1) way.workers t; allowed_before = tt; allowed = λ f hyp. tt; same_digests = tt };
+  right = record { lines = right_begun (way.workers == 1) way.workers t; allowed_before = tt; allowed = λ f hyp. tt; same_digests = tt; read = tt };
   reported = record {
     early = [];
     first_is = begun.first;
@@ -73,6 +73,7 @@ stands_begun way stands t agents s now count_is first empty begun = record {
     later = omega arith;
     still = refl;
     paid = rose_less 0 (0 + sum_over (count t) (λ r. 0)) now.faults now.faults (rose_none now.faults now.faults (omega arith)) (let e = sum_none (count t) in omega (arith, e));
+    during = tt;
     all_true = λ tells. tt;
     only_faults = λ tells. tt;
     holds = λ tells f r l. record {
@@ -110,8 +111,10 @@ possible W t lines history us start now lines_are barred right kept = record {
   lines_are = lines_are;
   allowed = right.allowed_before;
   same_digests = right.same_digests;
+  read = right.read;
   shelf = record {
     paid = rose_less (fault_marks (count t) history + sum_over (count t) (λ r. (us r).refused)) (fault_marks (count t) history) start.faults now.faults kept.paid (omega arith);
+    during = kept.during;
     all_true = kept.all_true;
     only_faults = kept.only_faults;
     holds = λ tells r l. (kept.holds tells (λ q. no_split) r l).records;

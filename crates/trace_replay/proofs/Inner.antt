@@ -145,6 +145,7 @@ module _ {A : Type 0} (way : Way A) (stands : Standing A) (t : Trace) (start : S
             allowed_before = old.right.allowed_before;
             allowed = λ f hyp. let x = allowed f hyp in (old.right.allowed f x.0, x.1);
             same_digests = old.right.same_digests;
+            read = old.right.read;
           };
           reported = reported_more t history seg s old.reported s' line event place adds;
           shelf = kept;
@@ -160,6 +161,7 @@ module _ {A : Type 0} (way : Way A) (stands : Standing A) (t : Trace) (start : S
     later = old.shelf.later;
     still = old.shelf.still;
     paid = old.shelf.paid;
+    during = old.shelf.during;
     all_true = old.shelf.all_true;
     only_faults = old.shelf.only_faults;
     holds = λ tells f r l. ⊎_elim

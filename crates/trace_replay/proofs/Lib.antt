@@ -12,6 +12,7 @@ pub mod Closes
 pub mod Concluded
 pub mod DealtMore
 pub mod Doing
+pub mod During
 pub mod Ending
 pub mod Filled
 pub mod Gathering

@@ -42,6 +42,7 @@ use Rattle.trace_replay.specs.Segments.{Splits, with_split, filled, archived_in,
 use Rattle.trace_replay.specs.Standing.{AreSplits}
 use Rattle.trace_replay.proofs.Closed.{grows_by, puts_closed}
 use Rattle.trace_replay.proofs.Filled.{moment_of, clock_filled, up_filled, forward_filled, late_history, few_history, length_filled, rotated_own, rotated_other, archived_own, archived_other, puts_filled, archive_is}
+use Rattle.trace_replay.proofs.During.{during_later}
 use Rattle.trace_replay.proofs.Held.{ArePutClosed, text_turned, bits_turned}
 use Rattle.trace_replay.proofs.Passing.{holds_still}
 use Rattle.trace_replay.proofs.Touched.{archived_covers, covered_more, untouched_then}
@@ -196,6 +197,7 @@ module _ {A V : Type 0} (besides : Besides A V) (reads : Reads A) (t : Trace) (s
     later = old.shelf.later;
     still = old.shelf.still;
     paid = old.shelf.paid;
+    during = old.shelf.during;
     holds = λ tells f r l. ⊎_elim
         (λ (e : r ≡ r0).
         let P : ℕ → Type 0 = λ q. HoldsSoFar (rules_of t q) was.contents (ledger (rules_of t) q (G line event f)) (old.us q) in
@@ -351,6 +353,7 @@ module _ {A V : Type 0} (besides : Besides A V) (reads : Reads A) (t : Trace) (l
                   sum_update n (λ r. (old.us r).refused) (λ r. (us r).refused) r0 u_more.refused l0 (ap (λ (u : Unfinished). u.refused) us_own) (λ r ne. ap (λ (u : Unfinished). u.refused) (us_other r ne)) in
                   rose_less ((fault_marks n history + had_refused) + u_more.refused) (fault_marks n history + sum_over n (λ r. (us r).refused)) start.faults now.faults
                   (rose_add (fault_marks n history + had_refused) u_more.refused start.faults was.faults now.faults old.shelf.paid rose) (omega (arith, sum));
+              during = during_later (count t) start was now later history old.shelf.during;
               holds = λ tells f r l. ⊎_elim
                   (λ (e : r ≡ r0).
                   let P : ℕ → Type 0 = λ q. HoldsSoFar (rules_of t q) now.contents (ledger (rules_of t) q (G f)) (us q) in

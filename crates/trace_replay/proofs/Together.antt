@@ -201,6 +201,7 @@ module _ {A V : Type 0} (way : Way A) (stands : Standing A) (besides : Besides A
             let S : History → Type 0 = λ h. AreSplits t f (filled f h history) in
             allowed_apart (count t) (rules_of t) f history seg inner (subst A (sym seg_ops) (stood.allowed f (subst S seg_ops (splits_apart t f seg history inner hyp))));
         same_digests = old.right.same_digests;
+        read = old.right.read;
       }
 
   -- ---- the shelf
@@ -253,6 +254,7 @@ module _ {A V : Type 0} (way : Way A) (stands : Standing A) (besides : Besides A
     later = stood.shelf.later;
     still = stood.shelf.still;
     paid = stood.shelf.paid;
+    during = stood.shelf.during;
     all_true = old.shelf.all_true;
     only_faults = old.shelf.only_faults;
     holds = held;

@@ -40,6 +40,7 @@ use Rattle.trace_replay.specs.Standing.{Way, Does, Adds, AreSplits}
 use Rattle.trace_replay.proofs.Closed.{puts_closed, grows_by}
 use Rattle.trace_replay.proofs.Filled.{moment_of, recorded_own, recorded_other, rotated_own, rotated_other, archived_own, archived_other, up_filled, puts_filled, archive_is}
 use Rattle.trace_replay.proofs.Gathering.{own_entry, other_entry}
+use Rattle.trace_replay.proofs.During.{during_later}
 use Rattle.trace_replay.proofs.Held.{ArePutClosed, held_recorded, held_changed, held_turned}
 use Rattle.trace_replay.proofs.Inner.{none_of, stands_at, clock_at, stands_more, kept_with}
 use Rattle.trace_replay.proofs.Passing.{held_still}
@@ -231,6 +232,7 @@ module _ {A : Type 0} (way : Way A) (stands : Standing A) (t : Trace) (line : Li
                   sum_update n (λ r. (old.us r).refused) (λ r. (us r).refused) r0 more.refused l0 (ap (λ (u : Unfinished). u.refused) us_own) (λ r ne. ap (λ (u : Unfinished). u.refused) (us_other r ne)) in
                   rose_less ((fault_marks n history + had_refused) + more.refused) (fault_marks n history + sum_over n (λ r. (us r).refused)) start.faults now.faults
                   (rose_add (fault_marks n history + had_refused) more.refused start.faults was.faults now.faults old.shelf.paid rose) (omega (arith, sum));
+              during = during_later (count t) start was now later history old.shelf.during;
               all_true = old.shelf.all_true;
               only_faults = old.shelf.only_faults;
               holds = λ tells f r l. ⊎_elim

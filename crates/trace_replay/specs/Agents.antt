@@ -7,6 +7,7 @@ use Rattle.spie_base.specs.declared.Rules.{Rules}
 use Rattle.page_shelf.specs.Shelves.{ChangesOnly, Contents, IsSame}
 use Rattle.page_shelf.specs.declared.ShelfName.{ShelfName}
 use Rattle.router_account.specs.Ledger.{Ledger, Unfinished, nothing_unfinished, behind_barrier}
+use Rattle.router_account.specs.Readings.{IsReadFrom}
 use Rattle.router_account.specs.Records.{Holds, HoldsBits, ArePageBits, AreTrue, AllFailed}
 use Rattle.router_account.specs.Shelves.{ShelfView, view_of}
 use Rattle.router_account.specs.Sights.{Reading, failures, no_reading}
@@ -111,6 +112,8 @@ pub record SeesUpTo {A S : Type 0} (stands : Standing A) (shown : S → Shown) (
       → AllHold (length agents) rules before.contents ls → (r : ℕ) (d : S) → r < i → AreTrue (rules r) (ls r).account (told (slice_index_or sights r d)).reading
   pub only_faults : before.tells ≡ true → (rules : RouterRules) (ls : ℕ → Ledger) (us : ℕ → Unfinished) → AllStand stands rules ls us agents
       → AllHold (length agents) rules before.contents ls → (r : ℕ) (d : S) → r < i → AllFailed (told (slice_index_or sights r d)).reading
+  pub read : (rules : RouterRules) (ls : ℕ → Ledger) (us : ℕ → Unfinished) → AllStand stands rules ls us agents → (r : ℕ) (d : S) → r < i
+      → IsReadFrom (rules r) (ls r).account before after (told (slice_index_or sights r d)).reading
   pub unchanged : before.tells ≡ true → IsSame before.contents after.contents
 
 abbrev pub SeesAll : {A S : Type 0} → Standing A → (S → Shown) → (S → Told) → (time : ℕ) → List A → List S → (before after : ShelfView) → Type 0

@@ -20,7 +20,7 @@ use Rattle.router_account.specs.Shelves.{ShelfView}
 use Rattle.data_agent.specs.Calls.{Meaning}
 use Rattle.trace_history.specs.History.{Event, History, IsEventOf, IsHistoryOf, account, clock}
 use Rattle.trace_history.specs.Ledgers.{ledger}
-use Rattle.trace_history.specs.Outcomes.{IsAllowed, fault_marks}
+use Rattle.trace_history.specs.Outcomes.{IsAllowed, AreReadDuring, fault_marks}
 use Rattle.trace_history.specs.Replay.{IsCoveredName}
 use Rattle.trace_history.specs.Routers.{count, rules_of, sum_over}
 use Rattle.trace_replay.specs.declared.state.Answer.{Answer}
@@ -55,6 +55,7 @@ pub record IsKeptBeside (t : Trace) (history ops : History) (us : ℕ → Unfini
   pub later : start.faults ≤ now.faults
   pub still : now.tells ≡ start.tells
   pub paid : RoseBy (fault_marks (count t) history + sum_over (count t) (λ r. (us r).refused)) start.faults now.faults
+  pub during : AreReadDuring (count t) start now history
   pub holds : start.tells ≡ true → (f : Splits) (r : ℕ) → r < count t
       → HoldsSoFar (rules_of t r) now.contents (ledger (rules_of t) r (filled f ops history)) (us r)
   pub untouched : start.tells ≡ true → (f : Splits) → AreSplits t f (filled f ops history)

@@ -130,3 +130,44 @@ fn accepted_texts(rt: HostRuntime) -> Result<(), Fail> {
     }
     Ok(())
 }
+
+// A trace of each version, with the rules of its second router and the delay of its link.
+#[test]
+fn each_version(rt: HostRuntime) -> Result<(), Fail> {
+    let alloc = rt.alloc();
+    let own = Rules {
+        k: 1,
+        n: 20,
+        limit: 1 << 20,
+        ..RULES
+    };
+    for (pieces, rules, delay) in [
+        ("@started 1;link a b~begin~end~", RULES, 0),
+        (
+            "@started 2;link a b~pages b 1 20 1048576~begin~end~",
+            own,
+            0,
+        ),
+        (
+            "@started 3;pages b 1 20 1048576~link b a 4294967295~begin~end~",
+            own,
+            u32::MAX,
+        ),
+    ] {
+        let text = text_of(alloc, pieces)?;
+        let trace = read_trace(alloc, &text).ok().ok_or("refused")?;
+        assert_eq!(rt;
+            trace.shapes.items(),
+            [RULES, rules].as_slice(),
+            "at {pieces:?}"
+        );
+        let one = trace.topology.find(b"a").ok_or("a")?;
+        let other = trace.topology.find(b"b").ok_or("b")?;
+        assert_eq!(rt;
+            trace.topology.delay(one, other),
+            Some(delay),
+            "at {pieces:?}"
+        );
+    }
+    Ok(())
+}

@@ -22,6 +22,22 @@ pub const RULES: &str = "\
 13 twice @packets;archive a~archive a\n\
 ";
 
+/// What only some versions have: pages of a router's own, and delays of links.
+pub const VERSIONS: &str = "\
+6 word @started 1;link a b~pages b 1 20 1~begin~end~\n\
+6 field @started 2;link a b~pages b 1 21 1~begin~end~\n\
+6 no-name @started 2;link a b~pages d 1 20 1~begin~end~\n\
+7 twice @started 2;link a b~pages b 1 20 1~pages b 1 20 1~begin~end~\n\
+# the limit is judged by the line's own N, and the shape line by the version's\n\
+5 field @started 2;pages b 1 6 65~begin~end~\n\
+2 field spie-trace 1~shape 3 17 60000 1000 8 5000 100 0123456789abcdef~\n\
+6 word @started 2;begin~pages b 1 20 1~end~\n\
+5 fields @started 2;link a b 5~begin~end~\n\
+6 fields @started 3;router c west~link a b~link b c 3~begin~end~\n\
+5 field @started 3;link a b 4294967296~begin~end~\n\
+6 double-link @started 3;link a b 5~link b a 6~begin~end~\n\
+";
+
 /// Each rule by itself, in further forms, and fields that are not of their form.
 pub const FORMS: &str = "\
 # each rule by itself, in further forms\n\
@@ -62,7 +78,7 @@ pub const FORMS: &str = "\
 14 twice @packets;archive a~archive b~archive a~\n\
 18 twice @packets;archive a~tick 1~archive a~query a 0 0~archive a~rotate a~archive a~\n\
 # fields that are not of their form\n\
-1 field spie-trace 2~\n\
+1 field spie-trace 4~\n\
 1 field spie-trace 01~\n\
 2 field @trace;shape 0 16 1 1 1 1 0 0123456789abcdef~\n\
 2 field @trace;shape 9 16 1 1 1 1 0 0123456789abcdef~\n\

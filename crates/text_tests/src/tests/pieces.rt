@@ -94,12 +94,23 @@ fn push_front(text: &mut Vec<u8>, name: &str) -> Result<(), AllocError> {
     Ok(())
 }
 
+// The first four lines of a version, with routers a and b.
+fn push_started(alloc: Global, text: &mut Vec<u8>, version: &str) -> Result<(), AllocError> {
+    let line = format!(in alloc; "spie-trace {}\n", version)?;
+    text.extend_from_slice(line.as_bytes())?;
+    text.extend_from_slice(b"shape 3 16 60000 1000 8 5000 100 0123456789abcdef\n")?;
+    text.extend_from_slice(b"router a east\nrouter b east\n")?;
+    Ok(())
+}
+
 // A piece that is named: a front, or so many lines of one kind.
 fn push_named(alloc: Global, text: &mut Vec<u8>, name: &str) -> Result<(), AllocError> {
     let Some((kind, count)) = name.split_once(' ') else {
         return push_front(text, name);
     };
-    if kind == "routers" {
+    if kind == "started" {
+        push_started(alloc, text, count)
+    } else if kind == "routers" {
         push_routers(alloc, text, number_of(count))
     } else if kind == "links" {
         push_links(alloc, text, number_of(count))

@@ -1,5 +1,5 @@
 // Texts that are no traces, and their first faults.
-use super::line_faults::{FORMS, PAIRS, RULES};
+use super::line_faults::{FORMS, PAIRS, RULES, VERSIONS};
 use super::pieces::is_refused;
 use super::size_faults::{LARGEST, SIZES};
 use std::rt::HostRuntime;
@@ -21,7 +21,7 @@ const PATHS: &str = "\
 #[test]
 fn refused_rows(rt: HostRuntime) -> Result<(), Fail> {
     let alloc = rt.alloc();
-    for table in [PATHS, FORMS, PAIRS, SIZES] {
+    for table in [PATHS, FORMS, PAIRS, SIZES, VERSIONS] {
         for row in table.lines() {
             if !row.starts_with('#') {
                 assert!(rt; is_refused(alloc, row, "", None)?, "at {row:?}");
