@@ -191,7 +191,7 @@ fn done<R: Threads + Wait + Sync>(
     }
 }
 
-/// Runs the rows of a file, and prints those that ended otherwise, and how many did not.
+/// Runs the rows of a file, and prints those that ended otherwise, or how many there are.
 pub fn run_file<R: Threads + Wait + Sync>(
     rt: &R,
     files: &HostRuntime,
@@ -201,6 +201,7 @@ pub fn run_file<R: Threads + Wait + Sync>(
     let text = fs::read_to_string(files, name)?;
     let mut row = Row::new(alloc);
     let mut same = 0u64;
+    let mut others = 0u64;
     for (at, line) in text.lines().enumerate() {
         if line.is_empty() || line.starts_with('#') {
             continue;
@@ -212,6 +213,7 @@ pub fn run_file<R: Threads + Wait + Sync>(
                 row.forget(alloc);
             }
             Said::Differs(outcome) => {
+                others = others.saturating_add(1);
                 let shown = std::str::from_utf8(&outcome.text).unwrap_or("no text");
                 println!(files;
                     "{name}, line {}: status {}, and {shown}",
@@ -222,5 +224,9 @@ pub fn run_file<R: Threads + Wait + Sync>(
             }
         }
     }
-    println!(files; "ok {name} {same}")
+    if others == 0 {
+        println!(files; "ok {name} {same}")
+    } else {
+        println!(files; "not ok {name}: {others} rows ended otherwise")
+    }
 }

@@ -13,7 +13,7 @@ use std::{fs, io};
 const STEP: usize = 1000;
 
 // How many bytes a sink takes that does not fail.
-const ROOM: usize = 100_000;
+const ROOM: usize = 10_000;
 
 /// What a run is given, and what is looked at behind it.
 #[derive(Drop)]

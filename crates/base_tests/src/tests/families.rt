@@ -3,6 +3,16 @@ use spie_base::{Marks, PageNo, RouterId, Sig};
 
 const ZEROS: Sig = Sig { bytes: [0; 28] };
 
+// Zeros, but for byte 3.
+const OTHER: Sig = Sig {
+    bytes: [
+        0, 0, 0, 1, 0, 0, 0, 0, 0, 0, 0, 0, 0, 0, 0, 0, 0, 0, 0, 0, 0, 0, 0, 0, 0, 0, 0, 0,
+    ],
+};
+
+// The one position of a signature for the first seed, by n.
+const FIRST: [(u8, Sig, u32); 3] = [(16, ZEROS, 57888), (16, OTHER, 20633), (20, ZEROS, 926218)];
+
 // The bytes 1 to 28.
 const COUNTED: Sig = Sig {
     bytes: [
@@ -40,9 +50,7 @@ fn seed_of(base: u64, router: u32, page: u32) -> u64 {
 #[test]
 fn seed_and_positions(rt: HostRuntime) {
     assert_eq!(rt; seed_of(0, 0, 0), 0xe220a8397b1dcdaf);
-    let mut other = ZEROS;
-    other.bytes[3] = 1;
-    for (n, sig, position) in [(16, ZEROS, 57888), (16, other, 20633), (20, ZEROS, 926218)] {
+    for (n, sig, position) in FIRST {
         let marks = marks(0, 1, n, &sig);
         assert_eq!(rt; marks.at, [position, 0, 0, 0, 0, 0, 0, 0]);
         assert_eq!(rt; marks.count, 1);
