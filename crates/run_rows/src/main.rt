@@ -1,7 +1,7 @@
 //! Runs the rows of the files of its folder by the top call of spie, and prints which rows ended as they say.
 //!
-//! A file `NAME.rows` has rows: arguments, an input and what fails, and then the status and the output that follow from the
-//! definitions by hand. `rows` has the form of such a file. Each other file is a part of inputs and outputs. A line is
+//! A file `NAME.rows` has rows: arguments, an input and what fails, and then the status and the output that follow from
+//! the definitions by hand. `rows` has the form of such a file. Each other file is a part of inputs and outputs. A line is
 //! printed for each file, also for one of parts, and for each row that ended otherwise: so a row that fails, and a file
 //! that comes or goes, changes what is printed. Read `rows` first, then `runs` and `pieces`.
 #![tactic(auto)]

@@ -1,4 +1,5 @@
-// The rule of receipts, for records of four workers between rotations.
+// Reports that are not compared whole: by the rule of receipts, for records of four workers between rotations, and by
+// the lines that sum answers up.
 use std::alloc::{AllocError, Global};
 
 // The page at the end of a line of a report, where it is one digit.
@@ -11,9 +12,9 @@ fn page_at_end(line: &[u8]) -> Option<u8> {
     }
 }
 
-// Whether the lines of a report, from the first answer on, are legal receipts of four workers: the fifth, tenth, fifteenth
-// and twentieth open pages 1 to 4, and each other line is a record in a page from 0 to 4, not below the page of the
-// record before that its worker did.
+// Whether the lines of a report, from the first answer on, are legal receipts of four workers: the fifth, tenth,
+// fifteenth and twentieth open pages 1 to 4, and each other line is a record in a page from 0 to 4, not below the page of
+// the record before that its worker did.
 fn are_legal(lines: &[&[u8]]) -> bool {
     let mut last = [0; 4];
     for (i, line) in lines.iter().enumerate() {
