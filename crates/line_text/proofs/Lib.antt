@@ -1,5 +1,9 @@
+pub mod Answering
 pub mod BuiltLines
 pub mod Cuts
+pub mod DecimalFields
+pub mod Fields
+pub mod LowerHex
 pub mod NextLines
 pub mod Parts
 pub mod Readings

@@ -21,9 +21,11 @@
 //! once for all languages.
 #![tactic(auto)]
 
+mod hex_digits;
 mod in_place;
 mod text;
 mod writing;
 
+pub use hex_digits::lower_hex_into;
 pub use text::{cut, split_into};
 pub use writing::{push, push_count, push_counted, push_field, push_number, push_word};

@@ -1,8 +1,6 @@
 -- What a field that is read looks like, and the other way round.
 use Rattle.std.proofs.Common.{ℕ, ◌≡◌, ◌^◌, ◌≤◌, ◌<◌, List, refl, arith, sym, ◌∙◌, Result, Ok, Err, Bool, true, false, cond, nat_lt, lit<}
 use Rattle.std.proofs.lemmas.Bool.Decides.{nat_tests}
-use Rattle.std.proofs.lemmas.Slice.Eq.{bytes_eq-Decides}
-use Rattle.std.specs.Bool.{Decides}
 use Rattle.std.specs.Fmt.{decimal}
 use Rattle.std.specs.Prelude.{codes}
 use Rattle.std.specs.Str.{bytes_eq}
@@ -16,17 +14,15 @@ use Rattle.hex.specs.declared.error.FromHexError.{FromHexError}
 use Rattle.spie_base.specs.declared.types.PageShape.{PageShape}
 use Rattle.spie_base.specs.declared.types.Sig.{Sig}
 use Rattle.trace_format.proofs.Again.{number_again, base_again}
-use Rattle.trace_format.proofs.FieldForms.{IsNumber, FieldMeets, bound, number_meets, base_meets, same}
+use Rattle.trace_format.proofs.FieldForms.{IsNumber, FieldMeets, bound, number_meets, base_meets}
+use Rattle.line_text.proofs.Fields.{same}
 use Rattle.spie_base.specs.Decimal.{number_in}
-use Rattle.trace_format.specs.Outcomes.{◌>>=◌}
+use Rattle.line_text.specs.Answers.{◌>>=◌}
 use Rattle.trace_format.specs.Reading.{number, base_of}
 use Rattle.trace_format.specs.Spelling.{IsBase}
 use Rattle.trace_format.specs.declared.refused.WhyRefused.TheVariants as why
 use Rattle.play_script.specs.Reading.{below, sig_of, sig_by, actor_in, shape_in}
 use Rattle.play_script.specs.Spelling.{IsActor, IsSig}
-
-pub not_same : (a b : List ℕ) → bytes_eq a b ≡ false → a ≡ b → ⊥
-not_same a b f e = let d : Decides (bytes_eq a b) (a ≡ b) = bytes_eq-Decides a b in let t : bytes_eq a b ≡ true = d.1 e in absurd (cc)
 
 -- a number below a bound
 pub record IsBelow (field : List ℕ) (bound n : ℕ) : Type 0 where

@@ -10,9 +10,10 @@ use Rattle.gate_core.specs.declared.steps.Act.TheVariants as act
 use Rattle.gate_core.specs.declared.steps.Actor.{Actor}
 use Rattle.gate_core.specs.declared.steps.Step.{Step}
 use Rattle.spie_base.specs.declared.types.PageShape.{PageShape}
-use Rattle.trace_format.proofs.FieldForms.{IsNumber, bound, number_meets, same}
+use Rattle.trace_format.proofs.FieldForms.{IsNumber, bound, number_meets}
+use Rattle.line_text.proofs.Fields.{same}
 use Rattle.play_script.specs.Limits.{most_steps}
-use Rattle.trace_format.specs.Outcomes.{◌>>=◌}
+use Rattle.line_text.specs.Answers.{◌>>=◌}
 use Rattle.trace_format.specs.Reading.{number}
 use Rattle.trace_format.specs.declared.refused.WhyRefused.{WhyRefused}
 use Rattle.trace_format.specs.declared.refused.WhyRefused.TheVariants as why

@@ -7,8 +7,7 @@ use Rattle.std.specs.declared.option.Option.TheVariants.{None, Some}
 use Rattle.gate_core.specs.declared.steps.Act.{Act}
 use Rattle.gate_core.specs.declared.steps.Act.TheVariants as act
 use Rattle.spie_base.specs.declared.types.PageShape.{PageShape}
-use Rattle.trace_format.proofs.FieldForms.{same}
-use Rattle.play_script.proofs.Fields.{not_same}
+use Rattle.line_text.proofs.Fields.{same, not_same}
 use Rattle.play_script.specs.Fault as form
 use Rattle.play_script.specs.Fault.{Form, HasWord, arity}
 use Rattle.play_script.specs.Reading.{word_of}

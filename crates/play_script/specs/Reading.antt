@@ -20,7 +20,7 @@ use Rattle.line_text.specs.Reading.{Reader}
 use Rattle.play_script.specs.Fault.{refusals}
 use Rattle.trace_format.specs.Limits.{most_bytes, most_line_bytes}
 use Rattle.play_script.specs.Limits.{most_steps}
-use Rattle.trace_format.specs.Outcomes.{◌>>=◌}
+use Rattle.line_text.specs.Answers.{◌>>=◌}
 use Rattle.trace_format.specs.Reading.{number, base_of}
 use Rattle.line_text.specs.Text.{fields}
 use Rattle.trace_format.specs.declared.refused.TraceRefused.{TraceRefused}

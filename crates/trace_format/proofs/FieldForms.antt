@@ -1,15 +1,18 @@
 -- What a field that is read looks like.
-use Rattle.std.proofs.Common.{ℕ, ◌≡◌, ◌≢◌, ◌/◌, ◌%◌, ◌^◌, ◌≤◌, ◌<◌, ◌⊎◌, inl, inr, List, [], ◌∷◌, length, refl, ap, arith, sym, ◌∙◌, subst, suc, Result, Ok, Err, Bool, true, false, cond, ◌==◌, nat_lt, nat_le, lit<}
+use Rattle.std.proofs.Common.{ℕ, ◌≡◌, ◌≢◌, ◌/◌, ◌%◌, ◌^◌, ◌≤◌, ◌<◌, ◌⊎◌, inl, inr, List, [], ◌∷◌, length, refl, ap, arith, sym, ◌∙◌, subst, suc, Result, Ok, Err, Bool, true, false, cond, ◌==◌, nat_lt, nat_le, lit<, lit≤}
 use Rattle.std.proofs.lemmas.Bool.Decides.{nat_tests}
-use Rattle.std.proofs.lemmas.Slice.Eq.{bytes_eq-Decides}
-use Rattle.std.specs.Bool.{Decides}
+use Rattle.line_text.proofs.Fields.{same}
 use Rattle.std.proofs.Math.Pow.{pow_mono}
 use Rattle.spie_base.specs.declared.types.Rules.{Rules}
 use Rattle.trace_format.specs.Reading.{front_in, times_in, back_in, shape_in, word_of, number, number_by, name_in, kind_in, is_hex_size, bytes_in, bytes_by, base_of, base_by}
 use Rattle.trace_format.specs.Spelling.{Spells, IsName, IsHex, IsBase, kind_word}
 use Rattle.trace_format.specs.Text.{is_name}
+use Rattle.trace_format.specs.Versions.{version_text, form_of, version_in}
+use Rattle.trace_format.specs.declared.version.Form.{Form}
+use Rattle.trace_format.specs.declared.version.Version.{Version}
+use Rattle.trace_format.specs.declared.version.Version.TheVariants.{First, Second, Third}
 use Rattle.trace_format.specs.Words.{word_text}
-use Rattle.trace_format.specs.Outcomes.{◌>>=◌}
+use Rattle.line_text.specs.Answers.{◌>>=◌}
 use Rattle.trace_format.specs.Said as said
 use Rattle.trace_format.specs.declared.words.Word.{Word}
 use Rattle.trace_format.specs.declared.words.Word.TheVariants as word
@@ -23,13 +26,13 @@ use Rattle.hex.specs.declared.error.FromHexError.{FromHexError}
 use Rattle.hex.specs.declared.error.FromHexError.TheVariants.{OddLength, InvalidStringLength}
 use Rattle.spie_base.specs.Decimal.{number_in as decimal_in}
 use Rattle.spie_base.proofs.Booleans.{both_held}
-use Rattle.spie_base.specs.declared.types.TheConstants.{K_MOST, N_LEAST}
-use Rattle.trace_format.proofs.DecimalFields.{number_in_ok}
+use Rattle.spie_base.specs.declared.types.TheConstants.{K_MOST, N_LEAST, N_MOST}
+use Rattle.line_text.proofs.DecimalFields.{number_in_ok}
 use Rattle.packet_signature.specs.declared.rows.Kind.{Kind}
 use Rattle.packet_signature.specs.declared.rows.Kind.TheVariants as kind
 use Rattle.trace_format.specs.declared.refused.WhyRefused.{WhyRefused}
 use Rattle.trace_format.specs.Limits.{most_digits}
-use Rattle.trace_format.specs.declared.limits.TheConstants.{MOST_TIME, VERSION_1_N_MOST}
+use Rattle.trace_format.specs.declared.limits.TheConstants.{MOST_TIME}
 use Rattle.trace_format.specs.declared.refused.WhyRefused.TheVariants as why
 
 -- what was read is so, and only a field is refused
@@ -68,9 +71,6 @@ pub name_meets : (field : List ℕ) → FieldMeets (λ u. IsName field) (name_in
 unfolding name_in
 name_meets field = name_by field _ refl
 
-pub same : (a b : List ℕ) → bytes_eq a b ≡ true → a ≡ b
-same a b e = let d : Decides (bytes_eq a b) (a ≡ b) = bytes_eq-Decides a b in d.0 e
-
 kind_by : (field : List ℕ) (v : Kind) (b : Bool) (rest : Result Kind WhyRefused) → bytes_eq field (kind_word v) ≡ b → FieldMeets (λ k. field ≡ kind_word k) rest → FieldMeets (λ k. field ≡ kind_word k) (cond b (Ok v) rest)
 kind_by field v true rest e more = same field (kind_word v) e
 kind_by field v false rest e more = more
@@ -96,7 +96,7 @@ no_word field w e = absurd (cc)
 
 pub word_ok : (field : List ℕ) (w : Word) → word_of field ≡ Some w → field ≡ word_text w
 unfolding word_of
-word_ok field w e = word_by field (bytes_eq field (word_text word.Fwd)) word.Fwd _ w refl (word_by field (bytes_eq field (word_text word.Packet)) word.Packet _ w refl (word_by field (bytes_eq field (word_text word.Xf)) word.Xf _ w refl (word_by field (bytes_eq field (word_text word.Watch)) word.Watch _ w refl (word_by field (bytes_eq field (word_text word.Tick)) word.Tick _ w refl (word_by field (bytes_eq field (word_text word.Query)) word.Query _ w refl (word_by field (bytes_eq field (word_text word.Rotate)) word.Rotate _ w refl (word_by field (bytes_eq field (word_text word.Archive)) word.Archive _ w refl (word_by field (bytes_eq field (word_text word.End)) word.End _ w refl (word_by field (bytes_eq field (word_text word.Router)) word.Router _ w refl (word_by field (bytes_eq field (word_text word.Link)) word.Link _ w refl (word_by field (bytes_eq field (word_text word.Begin)) word.Begin _ w refl (word_by field (bytes_eq field (word_text word.Shape)) word.Shape _ w refl (word_by field (bytes_eq field (word_text word.Trace)) word.Trace _ w refl (no_word field w)))))))))))))) e
+word_ok field w e = word_by field (bytes_eq field (word_text word.Fwd)) word.Fwd _ w refl (word_by field (bytes_eq field (word_text word.Packet)) word.Packet _ w refl (word_by field (bytes_eq field (word_text word.Xf)) word.Xf _ w refl (word_by field (bytes_eq field (word_text word.Watch)) word.Watch _ w refl (word_by field (bytes_eq field (word_text word.Tick)) word.Tick _ w refl (word_by field (bytes_eq field (word_text word.Query)) word.Query _ w refl (word_by field (bytes_eq field (word_text word.Rotate)) word.Rotate _ w refl (word_by field (bytes_eq field (word_text word.Archive)) word.Archive _ w refl (word_by field (bytes_eq field (word_text word.End)) word.End _ w refl (word_by field (bytes_eq field (word_text word.Router)) word.Router _ w refl (word_by field (bytes_eq field (word_text word.Link)) word.Link _ w refl (word_by field (bytes_eq field (word_text word.Begin)) word.Begin _ w refl (word_by field (bytes_eq field (word_text word.Pages)) word.Pages _ w refl (word_by field (bytes_eq field (word_text word.Shape)) word.Shape _ w refl (word_by field (bytes_eq field (word_text word.Trace)) word.Trace _ w refl (no_word field w))))))))))))))) e
 
 -- each word is the one of its text
 pub word_again : (w : Word) → word_of (word_text w) ≡ Some w
@@ -105,6 +105,7 @@ word_again word.Trace = refl
 word_again word.Shape = refl
 word_again word.Router = refl
 word_again word.Link = refl
+word_again word.Pages = refl
 word_again word.Begin = refl
 word_again word.Packet = refl
 word_again word.Fwd = refl
@@ -149,26 +150,43 @@ base_meets field = base_decoded field _ refl
 -- ---- the second line
 
 -- the front and the back of a shape line
-pub record Fronts (k n limit span : List ℕ) (r : Rules) : Type 0 where
+pub record Fronts (most : ℕ) (k n limit span : List ℕ) (r : Rules) : Type 0 where
   pub k_is : IsNumber k 1 K_MOST r.k
-  pub n_is : IsNumber n N_LEAST VERSION_1_N_MOST r.n
+  pub n_is : IsNumber n N_LEAST most r.n
   pub limit_is : IsNumber limit 1 (2 ^ r.n) r.limit
   pub span_is : IsNumber span 1 MOST_TIME r.span
 
-pub small : (n : ℕ) → n ≤ VERSION_1_N_MOST → 2 ^ n < 2 ^ 64
-small n le = let p : 2 ^ n ≤ 2 ^ VERSION_1_N_MOST = pow_mono le in omega (arith, p)
+pub small : (n : ℕ) → n ≤ N_MOST → 2 ^ n < 2 ^ 64
+small n le = let p : 2 ^ n ≤ 2 ^ N_MOST = pow_mono le in omega (arith, p)
 
-front_meets : (k n limit span : List ℕ) → FieldMeets (λ r. Fronts k n limit span r) (front_in k n limit span)
+-- no version has a greater N
+pub most_few : (v : Version) → (form_of v).n_most ≤ N_MOST
+most_few First = lit≤ tt
+most_few Second = lit≤ tt
+most_few Third = lit≤ tt
+
+version_by : (field : List ℕ) (v : Version) (b : Bool) (rest : Result Version WhyRefused) → bytes_eq field (version_text v) ≡ b → FieldMeets (λ x. field ≡ version_text x) rest → FieldMeets (λ x. field ≡ version_text x) (cond b (Ok v) rest)
+version_by field v true rest e more = same field (version_text v) e
+version_by field v false rest e more = more
+
+pub version_meets : (field : List ℕ) → FieldMeets (λ x. field ≡ version_text x) (version_in field)
+unfolding version_in
+version_meets field =
+    version_by field First (bytes_eq field (version_text First)) _ refl
+    (version_by field Second (bytes_eq field (version_text Second)) _ refl
+    (version_by field Third (bytes_eq field (version_text Third)) (Err why.Field) refl refl))
+
+front_meets : (most : ℕ) → most ≤ N_MOST → (k n limit span : List ℕ) → FieldMeets (λ r. Fronts most k n limit span r) (front_in most k n limit span)
 unfolding front_in
-front_meets k n limit span =
-    bound (λ v. IsNumber k 1 K_MOST v) (λ x. FieldMeets (λ r. Fronts k n limit span r) x) (number k 1 K_MOST) _ (number_meets k 1 K_MOST (lit< tt)) (λ a p.
-    bound (λ v. IsNumber n N_LEAST VERSION_1_N_MOST v) (λ x. FieldMeets (λ r. Fronts k n limit span r) x) (number n N_LEAST VERSION_1_N_MOST) _ (number_meets n N_LEAST VERSION_1_N_MOST (lit< tt)) (λ b q.
-    bound (λ v. IsNumber limit 1 (2 ^ b) v) (λ x. FieldMeets (λ r. Fronts k n limit span r) x) (number limit 1 (2 ^ b)) _ (number_meets limit 1 (2 ^ b) (small b q.high)) (λ c s.
-    bound (λ v. IsNumber span 1 MOST_TIME v) (λ x. FieldMeets (λ r. Fronts k n limit span r) x) (number span 1 MOST_TIME) _ (number_meets span 1 MOST_TIME (lit< tt)) (λ d t.
+front_meets most fits k n limit span =
+    bound (λ v. IsNumber k 1 K_MOST v) (λ x. FieldMeets (λ r. Fronts most k n limit span r) x) (number k 1 K_MOST) _ (number_meets k 1 K_MOST (lit< tt)) (λ a p.
+    bound (λ v. IsNumber n N_LEAST most v) (λ x. FieldMeets (λ r. Fronts most k n limit span r) x) (number n N_LEAST most) _ (number_meets n N_LEAST most (omega (arith, fits))) (λ b q.
+    bound (λ v. IsNumber limit 1 (2 ^ b) v) (λ x. FieldMeets (λ r. Fronts most k n limit span r) x) (number limit 1 (2 ^ b)) _ (number_meets limit 1 (2 ^ b) (small b (let h = q.high in omega (arith, h, fits)))) (λ c s.
+    bound (λ v. IsNumber span 1 MOST_TIME v) (λ x. FieldMeets (λ r. Fronts most k n limit span r) x) (number span 1 MOST_TIME) _ (number_meets span 1 MOST_TIME (lit< tt)) (λ d t.
     record { k_is = p; n_is = q; limit_is = s; span_is = t }) refl) refl) refl) refl
 
-spelled_shape : (k n limit span keep age width base : List ℕ) (r : Rules) → Fronts k n limit span r → IsNumber keep 1 32 r.keep → IsNumber age 1 MOST_TIME r.age → IsNumber width 0 MOST_TIME r.width → IsBase base r.base → Spells (said.Shape r) (codes "shape" ∷ k ∷ n ∷ limit ∷ span ∷ keep ∷ age ∷ width ∷ base ∷ [])
-spelled_shape k n limit span keep age width base r f p q w b = (
+spelled_shape : (form : Form) (k n limit span keep age width base : List ℕ) (r : Rules) → Fronts form.n_most k n limit span r → IsNumber keep 1 32 r.keep → IsNumber age 1 MOST_TIME r.age → IsNumber width 0 MOST_TIME r.width → IsBase base r.base → Spells form (said.Shape r) (codes "shape" ∷ k ∷ n ∷ limit ∷ span ∷ keep ∷ age ∷ width ∷ base ∷ [])
+spelled_shape form k n limit span keep age width base r f p q w b = (
   base,
   ap (λ z. codes "shape" ∷ z ∷ n ∷ limit ∷ span ∷ keep ∷ age ∷ width ∷ base ∷ []) f.k_is.is
       ∙ ap (λ z. codes "shape" ∷ decimal r.k ∷ z ∷ limit ∷ span ∷ keep ∷ age ∷ width ∷ base ∷ []) f.n_is.is
@@ -183,42 +201,42 @@ spelled_shape k n limit span keep age width base r f p q w b = (
 )
 
 -- the fields of a second line with these first five
-abbrev SpelledBy : (k n limit span keep age width base : List ℕ) → Result Rules WhyRefused → Type 0
-SpelledBy k n limit span keep age width base x = FieldMeets (λ r. Spells (said.Shape r) (codes "shape" ∷ k ∷ n ∷ limit ∷ span ∷ keep ∷ age ∷ width ∷ base ∷ [])) x
+abbrev SpelledBy : (form : Form) (k n limit span keep age width base : List ℕ) → Result Rules WhyRefused → Type 0
+SpelledBy form k n limit span keep age width base x = FieldMeets (λ r. Spells form (said.Shape r) (codes "shape" ∷ k ∷ n ∷ limit ∷ span ∷ keep ∷ age ∷ width ∷ base ∷ [])) x
 
-times_meet : (k n limit span keep age width base : List ℕ) (rules : Rules) → Fronts k n limit span rules → SpelledBy k n limit span keep age width base (times_in rules keep age width base)
+times_meet : (form : Form) (k n limit span keep age width base : List ℕ) (rules : Rules) → Fronts form.n_most k n limit span rules → SpelledBy form k n limit span keep age width base (times_in rules keep age width base)
 unfolding times_in
-times_meet k n limit span keep age width base rules f =
-    bound (λ v. IsNumber keep 1 32 v) (λ x. SpelledBy k n limit span keep age width base x) (number keep 1 32) _ (number_meets keep 1 32 (lit< tt)) (λ a p.
-    bound (λ v. IsNumber age 1 MOST_TIME v) (λ x. SpelledBy k n limit span keep age width base x) (number age 1 MOST_TIME) _ (number_meets age 1 MOST_TIME (lit< tt)) (λ b q.
-    bound (λ v. IsNumber width 0 MOST_TIME v) (λ x. SpelledBy k n limit span keep age width base x) (number width 0 MOST_TIME) _ (number_meets width 0 MOST_TIME (lit< tt)) (λ c w.
-    bound (λ v. IsBase base v) (λ x. SpelledBy k n limit span keep age width base x) (base_of base) _ (base_meets base) (λ d s.
-    spelled_shape k n limit span keep age width base (record rules { keep = a; age = b; width = c; base = d }) (record { k_is = f.k_is; n_is = f.n_is; limit_is = f.limit_is; span_is = f.span_is }) p q w s) refl) refl) refl) refl
+times_meet form k n limit span keep age width base rules f =
+    bound (λ v. IsNumber keep 1 32 v) (λ x. SpelledBy form k n limit span keep age width base x) (number keep 1 32) _ (number_meets keep 1 32 (lit< tt)) (λ a p.
+    bound (λ v. IsNumber age 1 MOST_TIME v) (λ x. SpelledBy form k n limit span keep age width base x) (number age 1 MOST_TIME) _ (number_meets age 1 MOST_TIME (lit< tt)) (λ b q.
+    bound (λ v. IsNumber width 0 MOST_TIME v) (λ x. SpelledBy form k n limit span keep age width base x) (number width 0 MOST_TIME) _ (number_meets width 0 MOST_TIME (lit< tt)) (λ c w.
+    bound (λ v. IsBase base v) (λ x. SpelledBy form k n limit span keep age width base x) (base_of base) _ (base_meets base) (λ d s.
+    spelled_shape form k n limit span keep age width base (record rules { keep = a; age = b; width = c; base = d }) (record { k_is = f.k_is; n_is = f.n_is; limit_is = f.limit_is; span_is = f.span_is }) p q w s) refl) refl) refl) refl
 
-abbrev pub ShapeMeets : List (List ℕ) → Result Rules WhyRefused → Type 0
-ShapeMeets rest (Ok r) = Spells (said.Shape r) (codes "shape" ∷ rest)
-ShapeMeets rest (Err rule) = ((rule ≡ why.Fields) × (length (codes "shape" ∷ rest) ≢ 9)) ⊎ ((rule ≡ why.Field) × (length (codes "shape" ∷ rest) ≡ 9))
+abbrev pub ShapeMeets : Form → List (List ℕ) → Result Rules WhyRefused → Type 0
+ShapeMeets form rest (Ok r) = Spells form (said.Shape r) (codes "shape" ∷ rest)
+ShapeMeets form rest (Err rule) = ((rule ≡ why.Fields) × (length (codes "shape" ∷ rest) ≢ 9)) ⊎ ((rule ≡ why.Field) × (length (codes "shape" ∷ rest) ≡ 9))
 
-as_shape : (k n limit span keep age width base : List ℕ) (x : Result Rules WhyRefused) → SpelledBy k n limit span keep age width base x → ShapeMeets (k ∷ n ∷ limit ∷ span ∷ keep ∷ age ∷ width ∷ base ∷ []) x
-as_shape k n limit span keep age width base (Ok r) h = h
-as_shape k n limit span keep age width base (Err rule) h = inr (h, refl)
+as_shape : (form : Form) (k n limit span keep age width base : List ℕ) (x : Result Rules WhyRefused) → SpelledBy form k n limit span keep age width base x → ShapeMeets form (k ∷ n ∷ limit ∷ span ∷ keep ∷ age ∷ width ∷ base ∷ []) x
+as_shape form k n limit span keep age width base (Ok r) h = h
+as_shape form k n limit span keep age width base (Err rule) h = inr (h, refl)
 
 longer : (xs : List (List ℕ)) → (suc (suc (suc (suc (suc (length xs))))) == 4) ≡ false
 longer xs = grind (arith, nat_tests)
 
-too_long_shape : (rest : List (List ℕ)) (b : Bool) (x : Result Rules WhyRefused) → b ≡ false → length (codes "shape" ∷ rest) ≢ 9 → ShapeMeets rest (cond b x (Err why.Fields))
-too_long_shape rest true x e n = absurd (cc)
-too_long_shape rest false x e n = inl (refl, n)
+too_long_shape : (form : Form) (rest : List (List ℕ)) (b : Bool) (x : Result Rules WhyRefused) → b ≡ false → length (codes "shape" ∷ rest) ≢ 9 → ShapeMeets form rest (cond b x (Err why.Fields))
+too_long_shape form rest true x e n = absurd (cc)
+too_long_shape form rest false x e n = inl (refl, n)
 
-pub shape_meets : (rest : List (List ℕ)) → ShapeMeets rest (shape_in rest)
+pub shape_meets : (form : Form) → form.n_most ≤ N_MOST → (rest : List (List ℕ)) → ShapeMeets form rest (shape_in form.n_most rest)
 unfolding shape_in back_in
-shape_meets [] = inl (refl, λ q. omega arith)
-shape_meets (a ∷ []) = inl (refl, λ q. omega arith)
-shape_meets (a ∷ b ∷ []) = inl (refl, λ q. omega arith)
-shape_meets (a ∷ b ∷ c ∷ []) = inl (refl, λ q. omega arith)
-shape_meets (a ∷ b ∷ c ∷ d ∷ []) = inl (refl, λ q. omega arith)
-shape_meets (a ∷ b ∷ c ∷ d ∷ k ∷ []) = inl (refl, λ q. omega arith)
-shape_meets (a ∷ b ∷ c ∷ d ∷ k ∷ l ∷ []) = inl (refl, λ q. omega arith)
-shape_meets (a ∷ b ∷ c ∷ d ∷ k ∷ l ∷ m ∷ []) = inl (refl, λ q. omega arith)
-shape_meets (a ∷ b ∷ c ∷ d ∷ k ∷ l ∷ m ∷ n ∷ []) = bound (λ r. Fronts a b c d r) (λ x. ShapeMeets (a ∷ b ∷ c ∷ d ∷ k ∷ l ∷ m ∷ n ∷ []) x) (front_in a b c d) (λ rules. times_in rules k l m n) (front_meets a b c d) (λ rules f. as_shape a b c d k l m n _ (times_meet a b c d k l m n rules f)) (inr (refl, refl))
-shape_meets (a ∷ b ∷ c ∷ d ∷ k ∷ l ∷ m ∷ n ∷ x ∷ xs) = too_long_shape (a ∷ b ∷ c ∷ d ∷ k ∷ l ∷ m ∷ n ∷ x ∷ xs) (length (k ∷ l ∷ m ∷ n ∷ x ∷ xs) == 4) _ (longer xs) (λ q. omega arith)
+shape_meets form fits [] = inl (refl, λ q. omega arith)
+shape_meets form fits (a ∷ []) = inl (refl, λ q. omega arith)
+shape_meets form fits (a ∷ b ∷ []) = inl (refl, λ q. omega arith)
+shape_meets form fits (a ∷ b ∷ c ∷ []) = inl (refl, λ q. omega arith)
+shape_meets form fits (a ∷ b ∷ c ∷ d ∷ []) = inl (refl, λ q. omega arith)
+shape_meets form fits (a ∷ b ∷ c ∷ d ∷ k ∷ []) = inl (refl, λ q. omega arith)
+shape_meets form fits (a ∷ b ∷ c ∷ d ∷ k ∷ l ∷ []) = inl (refl, λ q. omega arith)
+shape_meets form fits (a ∷ b ∷ c ∷ d ∷ k ∷ l ∷ m ∷ []) = inl (refl, λ q. omega arith)
+shape_meets form fits (a ∷ b ∷ c ∷ d ∷ k ∷ l ∷ m ∷ n ∷ []) = bound (λ r. Fronts form.n_most a b c d r) (λ x. ShapeMeets form (a ∷ b ∷ c ∷ d ∷ k ∷ l ∷ m ∷ n ∷ []) x) (front_in form.n_most a b c d) (λ rules. times_in rules k l m n) (front_meets form.n_most fits a b c d) (λ rules f. as_shape form a b c d k l m n _ (times_meet form a b c d k l m n rules f)) (inr (refl, refl))
+shape_meets form fits (a ∷ b ∷ c ∷ d ∷ k ∷ l ∷ m ∷ n ∷ x ∷ xs) = too_long_shape form (a ∷ b ∷ c ∷ d ∷ k ∷ l ∷ m ∷ n ∷ x ∷ xs) (length (k ∷ l ∷ m ∷ n ∷ x ∷ xs) == 4) _ (longer xs) (λ q. omega arith)

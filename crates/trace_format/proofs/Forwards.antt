@@ -1,22 +1,14 @@
 -- A line that was read in one pass over its bytes is one that is read by its fields.
-use Rattle.std.proofs.Common.{ℕ, ◌≡◌, ◌≢◌, ◌+◌, ◌-◌, ◌≤◌, ◌<◌, ◌^◌, List, [], ◌∷◌, ◌++◌, length, take, drop, get_or, refl, ap, arith, sym, ◌∙◌, Ok, Err, true, false, not, cond, ◌==◌, nat_lt, nat_le, append_assoc, length-append, codes}
-use Rattle.std.proofs.lemmas.Bool.{false≢true}
+use Rattle.std.proofs.Common.{ℕ, ◌≡◌, ◌≢◌, ◌+◌, ◌-◌, ◌≤◌, ◌<◌, ◌^◌, List, [], ◌∷◌, ◌++◌, length, take, drop, get_or, refl, ap, arith, sym, ◌∙◌, Ok, Err, true, false, cond, ◌==◌, nat_lt, nat_le, append_assoc, length-append, codes}
 use Rattle.std.proofs.lemmas.Bool.Decides.{nat_tests}
 use Rattle.std.proofs.lemmas.List.{take-append-drop, drop_more, take_all, length-take-le, length-drop, get_or-take}
-use Rattle.std.proofs.lemmas.List.Elements.{All-append, All-cons, All-nil, All-weaker}
-use Rattle.std.proofs.lemmas.List.Splits.{slice_split_at, slice_split_none}
-use Rattle.std.proofs.lemmas.List.Sums.{AllPass-from_list_all}
-use Rattle.std.proofs.lemmas.Fmt.{digits_decimal}
-use Rattle.std.proofs.lemmas.Str.Parse.{IsNumeralModel, numerals_by_value, tells_all_ascii_digits}
-use Rattle.std.specs.Char.{is_ascii_digit}
 use Rattle.std.specs.Fmt.{decimal}
-use Rattle.std.specs.List.{All, slice_split}
-use Rattle.std.specs.Str.{all_ascii_digits}
+use Rattle.std.specs.List.{slice_split}
 use Rattle.std.specs.Str.Parse.{AllDigits, digits_value}
 use Rattle.spie_base.proofs.Booleans.{both_held}
 use Rattle.spie_base.proofs.Bounds.{within}
 use Rattle.spie_base.proofs.DecimalText.{whole}
-use Rattle.trace_format.specs.Before.{Known}
+use Rattle.trace_format.specs.Before.{Known, form_in}
 use Rattle.trace_format.specs.ForwardLine.{HasName, HasNumber, BeginsForward}
 use Rattle.trace_format.specs.Outcomes.{Fails, Ends, stopped}
 use Rattle.trace_format.specs.Reading.{IsNext, accept, read_line, reader, read_lines}
@@ -31,8 +23,10 @@ use Rattle.trace_format.specs.declared.steps.Stop.{Stop}
 use Rattle.trace_format.specs.declared.words.Word.TheVariants as word
 use Rattle.trace_format.proofs.Again.{spelled_reads}
 use Rattle.trace_format.proofs.Stages.{open_stage}
+use Rattle.line_text.proofs.Fields.{leaves_tested, number_leaves, three_fields, three_leave, cut_line}
 use Rattle.line_text.proofs.NextLines.{read_bad}
-use Rattle.trace_format.proofs.Answering.{stops}
+use Rattle.line_text.specs.Fields.{LeavesOut}
+use Rattle.trace_format.proofs.Stops.{stops}
 use Rattle.trace_format.specs.Fault.{refusals}
 
 -- a part of a text, and what stands behind the byte after it
@@ -58,49 +52,26 @@ numbered text n v some few lt digits value most plain end =
       short = rw (← is) (omega (arith, len));
     }
 
--- where none of these bytes is that one
-abbrev LeavesOut : ℕ → List ℕ → Type 0
-LeavesOut byte text = All (λ x. (x == byte) ≡ false) text
+pub name_leaves : (byte : ℕ) (name : List ℕ) → is_name_byte byte ≡ false → IsName name → LeavesOut byte name
+name_leaves byte name out e = leaves_tested is_name_byte byte name out (both_held _ _ e).1
 
-not_byte : (x byte : ℕ) → x ≢ byte → (x == byte) ≡ false
-not_byte x byte ne = grind (arith, nat_tests)
-
-name_leaves : (byte : ℕ) (name : List ℕ) → is_name_byte byte ≡ false → IsName name → LeavesOut byte name
-name_leaves byte name out e = All-weaker (λ x. is_name_byte x ≡ true) (λ x. (x == byte) ≡ false) (λ x h. not_byte x byte (λ is. false≢true (sym out ∙ ap is_name_byte (sym is) ∙ h))) name (AllPass-from_list_all is_name_byte name (both_held _ _ e).1)
-
-ascii : IsNumeralModel (λ ds. all_ascii_digits ds ≡ true) (digits_value 10)
-ascii = numerals_by_value _ tells_all_ascii_digits
-
-number_leaves : (byte n : ℕ) → is_ascii_digit byte ≡ false → n < 2 ^ 64 → LeavesOut byte (decimal n)
-number_leaves byte n out small = All-weaker (λ x. is_ascii_digit x ≡ true) (λ x. (x == byte) ≡ false) (λ x h. not_byte x byte (λ is. false≢true (sym out ∙ ap is_ascii_digit (sym is) ∙ h))) (decimal n) (AllPass-from_list_all is_ascii_digit (decimal n) (digits_decimal ascii n small))
-
-word_leaves : (byte : ℕ) → 102 ≢ byte → 119 ≢ byte → 100 ≢ byte → LeavesOut byte (codes "fwd")
-word_leaves byte f w d =
-    let P : ℕ → Type 0 = λ x. (x == byte) ≡ false in
-    All-cons P 102 (119 ∷ 100 ∷ []) (not_byte 102 byte f) (All-cons P 119 (100 ∷ []) (not_byte 119 byte w) (All-cons P 100 [] (not_byte 100 byte d) (All-nil P)))
-
-abbrev line_of : List ℕ → ℕ → List ℕ
+-- the line of a packet that a router forwards
+abbrev pub line_of : List ℕ → ℕ → List ℕ
 line_of name n = codes "fwd" ++ 32 ∷ name ++ 32 ∷ decimal n
 
 whole_line : (name rest after : List ℕ) (n : ℕ) → rest ≡ decimal n ++ 10 ∷ after → codes "fwd" ++ 32 ∷ name ++ 32 ∷ rest ≡ line_of name n ++ 10 ∷ after
 whole_line name rest after n is = rw is (ap (λ z. codes "fwd" ++ 32 ∷ z) (sym (append_assoc name (32 ∷ decimal n) (10 ∷ after))))
 
-fields_are : (name : List ℕ) (n : ℕ) → IsName name → n < 2 ^ 64 → fields (line_of name n) ≡ codes "fwd" ∷ name ∷ decimal n ∷ []
-fields_are name n e small =
-    slice_split_at (λ b. b == 32) (codes "fwd") 32 (name ++ 32 ∷ decimal n) (word_leaves 32 (λ q. omega (arith, q)) (λ q. omega (arith, q)) (λ q. omega (arith, q))) refl
-    ∙ ap (λ z. codes "fwd" ∷ z) (slice_split_at (λ b. b == 32) name 32 (decimal n) (name_leaves 32 name refl e) refl
-    ∙ ap (λ z. name ∷ z) (slice_split_none (λ b. b == 32) (decimal n) (number_leaves 32 n refl small)))
+pub fields_are : (name : List ℕ) (n : ℕ) → IsName name → n < 2 ^ 64 → fields (line_of name n) ≡ codes "fwd" ∷ name ∷ decimal n ∷ []
+fields_are name n e small = three_fields (codes "fwd") name (decimal n) refl (name_leaves 32 name refl e) (number_leaves 32 n refl small)
 
-line_leaves : (name : List ℕ) (n : ℕ) → IsName name → n < 2 ^ 64 → LeavesOut 10 (line_of name n)
-line_leaves name n e small =
-    let P : ℕ → Type 0 = λ x. (x == 10) ≡ false in
-    All-append P (codes "fwd") (32 ∷ name ++ 32 ∷ decimal n) (word_leaves 10 (λ q. omega (arith, q)) (λ q. omega (arith, q)) (λ q. omega (arith, q)))
-    (All-cons P 32 (name ++ 32 ∷ decimal n) refl (All-append P name (32 ∷ decimal n) (name_leaves 10 name refl e) (All-cons P 32 (decimal n) refl (number_leaves 10 n refl small))))
+pub line_leaves : (name : List ℕ) (n : ℕ) → IsName name → n < 2 ^ 64 → LeavesOut 10 (line_of name n)
+line_leaves name n e small = three_leave (codes "fwd") name (decimal n) refl (name_leaves 10 name refl e) (number_leaves 10 n refl small)
 
 few_by : (n : ℕ) → nat_le n 16 ≡ true → n ≤ 16
 few_by n e = grind (arith, nat_tests)
 
-name_short : (name : List ℕ) → IsName name → length name ≤ 16
+pub name_short : (name : List ℕ) → IsName name → length name ≤ 16
 name_short name e = few_by (length name) (both_held _ _ (both_held _ _ (both_held _ _ e).0).0).1
 
 line_long : (name : List ℕ) (n : ℕ) → length (line_of name n) ≡ 5 + length name + length (decimal n)
@@ -114,29 +85,29 @@ begins text rest name then after n is h k =
     record {
       line = line_of name n;
       cut = record {
-        cut = ap (slice_split (λ b. b == 10)) all ∙ slice_split_at (λ b. b == 10) (line_of name n) 10 after (line_leaves name n h.spelled small) refl;
+        cut = ap (slice_split (λ b. b == 10)) all ∙ cut_line (line_of name n) after (line_leaves name n h.spelled small);
         shorter = omega (arith, long);
       };
       short = (let a = line_long name n in let b = name_short name h.spelled in omega (arith, a, b, k.short));
-      spelled = (fields_are name n h.spelled small, h.spelled, k.most);
+      spelled = λ form. (fields_are name n h.spelled small, h.spelled, k.most);
     }
 
 -- a line that says this is judged by its rules alone
-line_reads : (known : Known) (text name after : List ℕ) (n : ℕ) (b : BeginsForward text name n after) → may_come known.stage word.Fwd ≡ true → read_line known b.line ≡ accept known (said.Fwd name n)
+line_reads : (known : Known) (text name after : List ℕ) (n : ℕ) (b : BeginsForward text name n after) → may_come (form_in known) known.stage word.Fwd ≡ true → read_line known b.line ≡ accept known (said.Fwd name n)
 unfolding read_line
 line_reads known text name after n b comes =
     let t : nat_lt MOST_LINE_BYTES (length b.line) ≡ false = within MOST_LINE_BYTES (length b.line) b.short in
-    rw t (spelled_reads known (said.Fwd name n) (fields b.line) b.spelled ∙ ap (λ z. cond z (accept known (said.Fwd name n)) (Err why.Word)) comes)
+    rw t (spelled_reads known (said.Fwd name n) (fields b.line) (b.spelled (form_in known)) ∙ ap (λ z. cond z (accept known (said.Fwd name n)) (Err why.Word)) comes)
 
-pub forward_read : (known new : Known) (text name after : List ℕ) (n : ℕ) → BeginsForward text name n after → may_come known.stage word.Fwd ≡ true → accept known (said.Fwd name n) ≡ Ok new → IsNext known new text after
+pub forward_read : (known new : Known) (text name after : List ℕ) (n : ℕ) → BeginsForward text name n after → may_come (form_in known) known.stage word.Fwd ≡ true → accept known (said.Fwd name n) ≡ Ok new → IsNext known new text after
 forward_read known new text name after n b comes e = record {
   line = b.line;
   cut = b.cut;
-  before_end = open_stage known.stage word.Fwd comes;
+  before_end = open_stage (form_in known) known.stage word.Fwd comes;
   reads = line_reads known text name after n b comes ∙ e;
 }
 
-pub forward_bad : (known : Known) (text name after : List ℕ) (n : ℕ) (e : Stop) → BeginsForward text name n after → may_come known.stage word.Fwd ≡ true → Fails e (accept known (said.Fwd name n)) → Ends (stopped e (known.read + 1)) (read_lines known (lines text))
+pub forward_bad : (known : Known) (text name after : List ℕ) (n : ℕ) (e : Stop) → BeginsForward text name n after → may_come (form_in known) known.stage word.Fwd ≡ true → Fails e (accept known (said.Fwd name n)) → Ends (stopped e (known.read + 1)) (read_lines known (lines text))
 unfolding read_lines
 forward_bad known text name after n e b comes f =
-    stops e _ _ _ f (λ why bad. read_bad refusals reader known text b.line after why b.cut (open_stage known.stage word.Fwd comes) (line_reads known text name after n b comes ∙ bad))
+    stops e _ _ _ f (λ why bad. read_bad refusals reader known text b.line after why b.cut (open_stage (form_in known) known.stage word.Fwd comes) (line_reads known text name after n b comes ∙ bad))

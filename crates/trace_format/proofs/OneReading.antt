@@ -2,7 +2,7 @@
 use Rattle.std.proofs.Common.{ℕ, ◌≡◌, List, ◌∷◌, refl, ap, ◌∙◌, Result, Ok, Err}
 use Rattle.line_text.proofs.Readings as texts
 use Rattle.line_text.specs.Reading.{LineMeets, ReadsLines}
-use Rattle.trace_format.specs.Before.{Known, known_of}
+use Rattle.trace_format.specs.Before.{Known, known_of, form_at}
 use Rattle.trace_format.specs.Fault.{refusals}
 use Rattle.trace_format.specs.Laws.{EachTextIsOne}
 use Rattle.trace_format.specs.Reading.{read_line, reader}
@@ -37,7 +37,7 @@ reads_lines = record {
   over = λ said. refl;
   counts = λ said. refl;
   values = λ said. refl;
-  before_end = λ before line s l. open_stage (stage_of before) (word_said s) l.comes;
+  before_end = λ before line s l. open_stage (form_at before) (stage_of before) (word_said s) l.comes;
   meets = λ before line fit o. line_meets before line _ refl;
   again = λ before line s fit l. line_again before line s l;
   sole = λ before line rule fit o h. line_sole before line rule h;

@@ -2,12 +2,12 @@
 use Rattle.std.proofs.Common.{ℕ, ◌≡◌, List, [], ◌∷◌, refl, ap, sym, ◌∙◌, Result, Ok, Err, Bool, true, false, cond, ◌⊎◌, inl, inr}
 use Rattle.std.specs.declared.option.Option.{Option}
 use Rattle.std.specs.declared.option.Option.TheVariants.{None, Some}
-use Rattle.trace_format.specs.Before.{Known}
+use Rattle.trace_format.specs.Before.{Known, form_in}
 use Rattle.trace_format.specs.Fault.{HasWord, HasNoWord}
 use Rattle.trace_format.specs.Reading.{judged, grown, accept, line_by, by_fields, by_word, word_of, judged_by}
 use Rattle.trace_format.specs.Table.{first_broken}
 use Rattle.trace_format.specs.Words.{word_text, may_come}
-use Rattle.trace_format.specs.Outcomes.{◌>>=◌}
+use Rattle.line_text.specs.Answers.{◌>>=◌}
 use Rattle.trace_format.specs.Said.{Said}
 use Rattle.trace_format.proofs.FieldForms.{word_ok, word_again}
 use Rattle.trace_format.proofs.LineForms.{Trouble, line_err}
@@ -33,33 +33,33 @@ true_false false t f = absurd (cc)
 
 -- a known word that may stand, and what is wrong behind it
 pub record Behind (known : Known) (parts : List (List ℕ)) (y : WhyRefused) : Type 0 where
-  pub begun : HasWord known.stage parts
+  pub begun : HasWord (form_in known) known.stage parts
   pub trouble : Trouble known begun.w begun.more y
 
 abbrev pub PartsTrouble : Known → List (List ℕ) → WhyRefused → Type 0
-PartsTrouble known parts y = ((y ≡ why.Word) × HasNoWord known.stage parts) ⊎ Behind known parts y
+PartsTrouble known parts y = ((y ≡ why.Word) × HasNoWord (form_in known) known.stage parts) ⊎ Behind known parts y
 
 word_is : (y : WhyRefused) → ErrIs why.Word y → y ≡ why.Word
 word_is y e = let q : why.Word ≡ y = cc in sym q
 
 -- the word of fields that begin with one
-begun_word : (known : Known) (f : List ℕ) (rest : List (List ℕ)) (st : HasWord known.stage (f ∷ rest)) → word_of f ≡ Some st.w
+begun_word : (known : Known) (f : List ℕ) (rest : List (List ℕ)) (st : HasWord (form_in known) known.stage (f ∷ rest)) → word_of f ≡ Some st.w
 begun_word known f rest st = let q : f ≡ word_text st.w = first_same f rest (word_text st.w) st.more st.are in rw q (word_again st.w)
 
-none_begun : (known : Known) (f : List ℕ) (rest : List (List ℕ)) → word_of f ≡ None → HasWord known.stage (f ∷ rest) → ⊥
+none_begun : (known : Known) (f : List ℕ) (rest : List (List ℕ)) → word_of f ≡ None → HasWord (form_in known) known.stage (f ∷ rest) → ⊥
 none_begun known f rest is st = let q = sym is ∙ begun_word known f rest st in absurd (cc)
 
-no_more : (known : Known) (f : List ℕ) (w : Word) (rest : List (List ℕ)) → word_of f ≡ Some w → may_come known.stage w ≡ false → HasWord known.stage (f ∷ rest) → ⊥
+no_more : (known : Known) (f : List ℕ) (w : Word) (rest : List (List ℕ)) → word_of f ≡ Some w → may_come (form_in known) known.stage w ≡ false → HasWord (form_in known) known.stage (f ∷ rest) → ⊥
 no_more known f w rest is m st =
     let q : SomeWord w st.w = sym is ∙ begun_word known f rest st in
     let r : w ≡ st.w = some_word w st.w q in
-    let t : may_come known.stage w ≡ true = rw r st.comes in
-    absurd (true_false (may_come known.stage w) t m)
+    let t : may_come (form_in known) known.stage w ≡ true = rw r st.comes in
+    absurd (true_false (may_come (form_in known) known.stage w) t m)
 
-no_part : (known : Known) → HasWord known.stage [] → ⊥
+no_part : (known : Known) → HasWord (form_in known) known.stage [] → ⊥
 no_part known st = let q = st.are in absurd (cc)
 
-begun_by : (known : Known) (f : List ℕ) (w : Word) (rest : List (List ℕ)) (y : WhyRefused) (b : Bool) → word_of f ≡ Some w → may_come known.stage w ≡ b → cond b (line_by known w rest) (Err why.Word) ≡ Err y → PartsTrouble known (f ∷ rest) y
+begun_by : (known : Known) (f : List ℕ) (w : Word) (rest : List (List ℕ)) (y : WhyRefused) (b : Bool) → word_of f ≡ Some w → may_come (form_in known) known.stage w ≡ b → cond b (line_by known w rest) (Err why.Word) ≡ Err y → PartsTrouble known (f ∷ rest) y
 begun_by known f w rest y true is m e = inr (record { begun = record { w = w; more = rest; are = ap (λ z. z ∷ rest) (word_ok f w is); comes = m }; trouble = line_err known w rest y e })
 begun_by known f w rest y false is m e = inl (word_is y e, λ st. no_more known f w rest is m st)
 

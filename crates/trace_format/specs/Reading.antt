@@ -1,5 +1,5 @@
 -- Reading a trace, line by line.
-use Rattle.std.specs.Prelude.{ℕ, ◌+◌, ◌/◌, ◌^◌, List, [], ◌∷◌, ◌++◌, length, Bool, ◌&&◌, ◌==◌, if◌then◌else◌, nat_le, nat_lt, Result, Ok, Err, codes}
+use Rattle.std.specs.Prelude.{ℕ, ◌+◌, ◌/◌, ◌^◌, List, [], ◌∷◌, ◌++◌, length, Bool, true, false, slice_set, ◌&&◌, ◌==◌, if◌then◌else◌, nat_le, nat_lt, Result, Ok, Err, codes}
 use Rattle.std.specs.Str.{bytes_eq}
 use Rattle.std.specs.declared.option.Option.{Option}
 use Rattle.std.specs.declared.option.Option.TheVariants.{None, Some}
@@ -11,13 +11,13 @@ use Rattle.packet_signature.specs.declared.rows.Kind.{Kind}
 use Rattle.packet_signature.specs.declared.rows.Kind.TheVariants as kind
 use Rattle.spie_base.specs.Decimal.{number_in as decimal_in}
 use Rattle.spie_base.specs.declared.types.Rules.{Rules}
-use Rattle.spie_base.specs.declared.types.TheConstants.{K_MOST, N_LEAST}
+use Rattle.spie_base.specs.declared.types.TheConstants.{K_MOST, N_LEAST, N_MOST}
 use Rattle.topology.specs.Layout.{with_router, with_link}
-use Rattle.trace_format.specs.Before.{Known, known_of, no_rules, number_of, whats, added}
+use Rattle.trace_format.specs.Before.{Known, known_of, form_in, no_rules, number_of, shaped, whats, added}
 use Rattle.trace_format.specs.Fault.{refusals}
 use Rattle.trace_format.specs.Limits.{most_digits}
-use Rattle.trace_format.specs.declared.limits.TheConstants.{VERSION_1_N_MOST, MOST_BYTES, MOST_LINE_BYTES, MOST_TIME, MOST_NUMBER}
-use Rattle.trace_format.specs.Outcomes.{◌>>=◌}
+use Rattle.trace_format.specs.declared.limits.TheConstants.{MOST_BYTES, MOST_LINE_BYTES, MOST_TIME, MOST_NUMBER, MOST_DELAY}
+use Rattle.line_text.specs.Answers.{◌>>=◌}
 use Rattle.trace_format.specs.Said.{Said}
 use Rattle.trace_format.specs.Said as said
 use Rattle.trace_format.specs.Table.{first_broken}
@@ -26,6 +26,7 @@ use Rattle.line_text.specs.Reading.{Reader}
 use Rattle.line_text.specs.Text.{fields}
 use Rattle.trace_format.specs.Text.{is_name}
 use Rattle.trace_format.specs.Trace.{trace_of}
+use Rattle.trace_format.specs.Versions.{version_in}
 use Rattle.trace_format.specs.Words.{word_text, may_come, is_over}
 use Rattle.trace_format.specs.declared.items.Trace.{Trace}
 use Rattle.trace_format.specs.declared.refused.TraceRefused.{TraceRefused}
@@ -74,10 +75,10 @@ kind_in field =
 unfoldable pub name_in : List ℕ → Result (Unit {0}) WhyRefused
 name_in field = if is_name field then Ok tt else Err why.Field
 
-unfoldable pub front_in : (k n limit span : List ℕ) → Result Rules WhyRefused
-front_in k n limit span = do
+unfoldable pub front_in : (n_most : ℕ) → (k n limit span : List ℕ) → Result Rules WhyRefused
+front_in n_most k n limit span = do
   k ← number k 1 K_MOST
-  n ← number n N_LEAST VERSION_1_N_MOST
+  n ← number n N_LEAST n_most
   limit ← number limit 1 (2 ^ n)
   span ← number span 1 MOST_TIME
   Ok (record no_rules { k = k; n = n; limit = limit; span = span })
@@ -94,16 +95,17 @@ unfoldable pub back_in : Rules → List (List ℕ) → Result Rules WhyRefused
 back_in rules (keep ∷ age ∷ width ∷ base ∷ []) = times_in rules keep age width base
 back_in rules _ = Err why.Fields
 
-unfoldable pub shape_in : List (List ℕ) → Result Rules WhyRefused
-shape_in (k ∷ n ∷ limit ∷ span ∷ back) = if length back == 4 then (front_in k n limit span >>= (λ rules. back_in rules back)) else Err why.Fields
-shape_in _ = Err why.Fields
+unfoldable pub shape_in : (n_most : ℕ) → List (List ℕ) → Result Rules WhyRefused
+shape_in n_most (k ∷ n ∷ limit ∷ span ∷ back) = if length back == 4 then (front_in n_most k n limit span >>= (λ rules. back_in rules back)) else Err why.Fields
+shape_in n_most _ = Err why.Fields
 
 -- what is known with one more line
 unfoldable pub grown : Known → Said → Known
-grown known said.Version = record known { stage = stage.Shape; read = known.read + 1 }
+grown known (said.Version version) = record known { version = version; stage = stage.Shape; read = known.read + 1 }
 grown known (said.Shape rules) = record known { stage = stage.Declarations; read = known.read + 1; rules = rules }
-grown known (said.Router name region) = record known { stage = stage.Declarations; read = known.read + 1; layout = with_router known.layout name region }
-grown known (said.Link one other) = record known { stage = stage.Declarations; read = known.read + 1; layout = with_link known.layout one other }
+grown known (said.Router name region) = record known { stage = stage.Declarations; read = known.read + 1; layout = with_router known.layout name region; shapes = known.shapes ++ known.rules ∷ [] }
+grown known (said.Link one other delay) = record known { stage = stage.Declarations; read = known.read + 1; layout = with_link known.layout one other delay }
+grown known (said.Pages name k n limit) = record known { stage = stage.Declarations; read = known.read + 1; shapes = slice_set known.shapes (number_of known.layout name) (shaped known.rules k n limit); paged = known.paged ++ number_of known.layout name ∷ [] }
 grown known said.Begin = record known { stage = stage.Body; read = known.read + 1 }
 grown known (said.Packet bytes) = record known { stage = stage.Body; read = known.read + 1; sigs = known.sigs ++ signature_of bytes ∷ [] }
 grown known (said.Fwd name packet) = record known { stage = stage.Body; read = known.read + 1; records = known.records + 1; lines = added known.lines (known.read + 1) (whats known.layout (said.Fwd name packet)) }
@@ -127,7 +129,7 @@ unfoldable pub accept : Known → Said → Result Known WhyRefused
 accept known said = judged known said >>= (λ fits. Ok (grown known said))
 
 unfoldable pub version_fields : Known → List ℕ → Result Known WhyRefused
-version_fields known version = if bytes_eq version (codes "1") then accept known said.Version else Err why.Field
+version_fields known version = version_in version >>= (λ v. accept known (said.Version v))
 
 unfoldable pub version_line : Known → List (List ℕ) → Result Known WhyRefused
 version_line known (version ∷ []) = version_fields known version
@@ -135,7 +137,7 @@ version_line known _ = Err why.Fields
 
 unfoldable pub shape_line : Known → List (List ℕ) → Result Known WhyRefused
 shape_line known rest = do
-  rules ← shape_in rest
+  rules ← shape_in (form_in known).n_most rest
   accept known (said.Shape rules)
 
 unfoldable pub router_fields : Known → (name region : List ℕ) → Result Known WhyRefused
@@ -152,11 +154,42 @@ unfoldable pub link_fields : Known → (one other : List ℕ) → Result Known W
 link_fields known one other = do
   fits ← name_in one
   fits ← name_in other
-  accept known (said.Link one other)
+  accept known (said.Link one other 0)
+
+unfoldable pub plain_link : Known → List (List ℕ) → Result Known WhyRefused
+plain_link known (one ∷ other ∷ []) = link_fields known one other
+plain_link known _ = Err why.Fields
+
+unfoldable pub delayed_fields : Known → (one other delay : List ℕ) → Result Known WhyRefused
+delayed_fields known one other delay = do
+  fits ← name_in one
+  fits ← name_in other
+  delay ← number delay 0 MOST_DELAY
+  accept known (said.Link one other delay)
+
+unfoldable pub delayed_link : Known → List (List ℕ) → Result Known WhyRefused
+delayed_link known (one ∷ other ∷ delay ∷ []) = delayed_fields known one other delay
+delayed_link known _ = Err why.Fields
+
+-- by whether links have delays
+abbrev pub link_by : Bool → Known → List (List ℕ) → Result Known WhyRefused
+link_by false known rest = plain_link known rest
+link_by true known rest = delayed_link known rest
 
 unfoldable pub link_line : Known → List (List ℕ) → Result Known WhyRefused
-link_line known (one ∷ other ∷ []) = link_fields known one other
-link_line known _ = Err why.Fields
+link_line known rest = link_by (form_in known).has_delays known rest
+
+unfoldable pub pages_fields : Known → (name k n limit : List ℕ) → Result Known WhyRefused
+pages_fields known name k n limit = do
+  fits ← name_in name
+  k ← number k 1 K_MOST
+  n ← number n N_LEAST N_MOST
+  limit ← number limit 1 (2 ^ n)
+  accept known (said.Pages name k n limit)
+
+unfoldable pub pages_line : Known → List (List ℕ) → Result Known WhyRefused
+pages_line known (name ∷ k ∷ n ∷ limit ∷ []) = pages_fields known name k n limit
+pages_line known _ = Err why.Fields
 
 unfoldable pub begin_line : Known → List (List ℕ) → Result Known WhyRefused
 begin_line known [] = accept known said.Begin
@@ -248,8 +281,9 @@ word_of field =
     (if bytes_eq field (word_text word.Router) then Some word.Router else
     (if bytes_eq field (word_text word.Link) then Some word.Link else
     (if bytes_eq field (word_text word.Begin) then Some word.Begin else
+    (if bytes_eq field (word_text word.Pages) then Some word.Pages else
     (if bytes_eq field (word_text word.Shape) then Some word.Shape else
-    (if bytes_eq field (word_text word.Trace) then Some word.Trace else None)))))))))))))
+    (if bytes_eq field (word_text word.Trace) then Some word.Trace else None))))))))))))))
 
 -- one more line, by its word and the fields behind it
 unfoldable pub line_by : Known → Word → List (List ℕ) → Result Known WhyRefused
@@ -257,6 +291,7 @@ line_by known word.Trace rest = version_line known rest
 line_by known word.Shape rest = shape_line known rest
 line_by known word.Router rest = router_line known rest
 line_by known word.Link rest = link_line known rest
+line_by known word.Pages rest = pages_line known rest
 line_by known word.Begin rest = begin_line known rest
 line_by known word.Packet rest = packet_line known rest
 line_by known word.Fwd rest = fwd_line known rest
@@ -270,7 +305,7 @@ line_by known word.End rest = end_line known rest
 
 abbrev pub by_word : Known → Option Word → List (List ℕ) → Result Known WhyRefused
 by_word known None rest = Err why.Word
-by_word known (Some w) rest = if may_come known.stage w then line_by known w rest else Err why.Word
+by_word known (Some w) rest = if may_come (form_in known) known.stage w then line_by known w rest else Err why.Word
 
 abbrev pub by_fields : Known → List (List ℕ) → Result Known WhyRefused
 by_fields known [] = Err why.Word

@@ -5,6 +5,8 @@ use Rattle.spie_base.specs.Shapes.{AreInRange}
 use Rattle.topology.specs.Layout.{IsEachOnce}
 use Rattle.topology.specs.Layout.{IsSound as IsSoundLayout}
 use Rattle.trace_format.specs.Spelling.{IsFront, IsBack, IsName}
+use Rattle.spie_base.specs.declared.types.Rules.{Rules}
+use Rattle.spie_base.specs.declared.types.TheConstants.{N_MOST}
 use Rattle.trace_format.specs.declared.items.Line.{Line}
 use Rattle.trace_format.specs.declared.items.Trace.{Trace}
 use Rattle.trace_format.specs.declared.items.What.{What}
@@ -93,12 +95,20 @@ pub record HasOneEnd (lines : List Line) : Type 0 where
   pub some : 0 < length lines
   pub last : (i : ℕ) (line : Line) → slice_get lines i ≡ Some line → (line.what ≡ End) ↔ (i + 1 ≡ length lines)
 
+-- rules that a router may have
+pub record IsFit (r : Rules) : Type 0 where
+  pub front : IsFront N_MOST r
+  pub back : IsBack r
+  pub shape : AreInRange r.k r.n
+
 -- what holds of every trace
 pub record IsSound (t : Trace) : Type 0 where
-  pub front : IsFront t.rules
+  pub front : IsFront N_MOST t.rules
   pub back : IsBack t.rules
   pub shape : AreInRange t.rules.k t.rules.n
   pub topology : IsSoundLayout t.topology
+  pub shapes : length t.shapes ≡ length t.topology.names
+  pub fits : All IsFit t.shapes
   pub names : AreNames t.topology.names
   pub few_packets : length t.sigs ≤ MOST_PACKETS
   pub few_records : length (records t.lines) ≤ MOST_RECORDS

@@ -36,6 +36,7 @@ mod reader;
 mod refused;
 mod steps;
 mod text;
+mod version;
 mod words;
 
 pub use items::{Line, Trace, What};
@@ -50,3 +51,4 @@ pub use refused::{ReadTraceRefused, TraceRefused, WhyRefused};
 pub use fields::{base_of, number};
 pub use limits::{MOST_BYTES, MOST_LINE_BYTES};
 pub use steps::Stop;
+pub use text::is_name;

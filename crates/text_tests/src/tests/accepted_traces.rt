@@ -115,3 +115,46 @@ fn empty_trace(rt: HostRuntime) -> Result<(), Fail> {
     );
     Ok(())
 }
+
+// The rules of a router that has pages of its own.
+const OWN: Rules = Rules {
+    k: 1,
+    n: 20,
+    limit: 1_048_576,
+    span: 1000,
+    keep: 8,
+    age: 5000,
+    width: 100,
+    base: 0x0123_4567_89ab_cdef,
+};
+
+// A trace of each version, with the rules of its second router and the delay of its link.
+const VERSIONS: [(&[u8], Rules, u32); 3] = [
+    (
+        b"spie-trace 1\nshape 3 16 60000 1000 8 5000 100 0123456789abcdef\nrouter a east\nrouter b east\nlink a b\nbegin\nend\n",
+        RULES,
+        0,
+    ),
+    (
+        b"spie-trace 2\nshape 3 16 60000 1000 8 5000 100 0123456789abcdef\nrouter a east\nrouter b east\nlink a b\npages b 1 20 1048576\nbegin\nend\n",
+        OWN,
+        0,
+    ),
+    (
+        b"spie-trace 3\nshape 3 16 60000 1000 8 5000 100 0123456789abcdef\nrouter a east\nrouter b east\npages b 1 20 1048576\nlink b a 4294967295\nbegin\nend\n",
+        OWN,
+        u32::MAX,
+    ),
+];
+
+#[test]
+fn each_version(rt: HostRuntime) -> Result<(), Fail> {
+    for (text, rules, delay) in &VERSIONS {
+        let trace = read_trace(rt.alloc(), text).ok().ok_or("refused")?;
+        assert_eq!(rt; trace.shapes.items(), [RULES, *rules].as_slice());
+        let one = trace.topology.find(b"a").ok_or("a")?;
+        let other = trace.topology.find(b"b").ok_or("b")?;
+        assert_eq!(rt; trace.topology.delay(one, other), Some(*delay));
+    }
+    Ok(())
+}

@@ -3,7 +3,7 @@ use Rattle.line_text.proofs.NextLines.{read_over, read_bad}
 use Rattle.line_text.proofs.Readings.{one_line, reached_count, reached_reads}
 use Rattle.line_text.specs.Reading.{IsNext, refused}
 use Rattle.line_text.specs.Text.{lines}
-use Rattle.trace_format.proofs.Answering.{stops}
+use Rattle.trace_format.proofs.Stops.{stops}
 use Rattle.trace_format.specs.Outcomes.{Ends, stopped}
 use Rattle.trace_format.specs.declared.refused.WhyRefused.TheVariants as why
 use Rattle.play_script.proofs.OneReading.{reads_lines}
