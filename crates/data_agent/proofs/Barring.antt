@@ -148,6 +148,9 @@ untouched old after new middle rules l u clock tick archived closed left x y z p
 
 -- ---- after want of memory
 
+pub recorded_finished : (agent : Agent) (rules : Rules) (l : Ledger) (split : Split) (clock : ℕ) → StandsForSame agent rules (finished_at l split) clock → StandsForSame agent rules l clock
+recorded_finished agent rules l split clock s = record { after = s.after; unfinished = s.unfinished; stands = s.stands; router = s.router; entries = s.entries; rows = s.rows; closings = s.closings }
+
 pub recorded_expired : (after new : Agent) (rules : Rules) (l : Ledger) (split : Split) (clock : ℕ) (tick : Bool) → StandsWhole after rules (ticked_at rules (finished_at l split) clock tick) nothing_unfinished
     → Stands new rules (expired_with (ticked_at rules (finished_at l split) clock tick) clock []) → new.noted ≡ after.noted → StandsForSame new rules l clock
 recorded_expired after new rules l split clock tick s stands noted =

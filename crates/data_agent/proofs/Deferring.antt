@@ -9,7 +9,7 @@ use Rattle.spie_base.specs.declared.Rules.{Rules}
 use Rattle.page_shelf.specs.declared.ShelfPart.TheVariants.{Bits}
 use Rattle.router_account.specs.Account.{Account, bits}
 use Rattle.router_account.specs.Barriers.{AreRising, IsCovered, IsSplit, IsSplitOf, IsSplitWhere, archive_view}
-use Rattle.router_account.specs.Ledger.{Ledger, PutBits, Unfinished, was_expired}
+use Rattle.router_account.specs.Ledger.{Ledger, Split, PutBits, Unfinished, was_expired}
 use Rattle.router_account.specs.Records.{ArePageBits, Holds, HoldsBits, bits_text, name_of, true_text}
 use Rattle.router_account.specs.Shelves.{ShelfView}
 use Rattle.shelved_page.specs.Shelving.{count_if}

@@ -1,3 +1,4 @@
+mod delays;
 mod floods;
 mod nets;
 mod regions;

@@ -33,7 +33,7 @@ too_long_text : codes "refused 0 too-long\n" ≡ fault_text too_long
 too_long_text = ap (λ digits. codes "refused " ++ digits ++ 32 ∷ codes "too-long" ++ 10 ∷ []) (sym (decimal_digit 0 (lit< tt)))
 
 refused_long : (command : Command) (kept : Keeping) (input : List ℕ) → IsUntouched kept → most_bytes < length input → Refuses command kept input (codes "refused 0 too-long\n")
-refused_long (Replay workers) kept input same long = record { fault = too_long; first = inl (long, refl); says = too_long_text; untouched = same }
+refused_long (Replay workers) kept input same long = record { fault = too_long; first = inl (inl (long, refl)); says = too_long_text; untouched = same }
 refused_long Play kept input same long = record { fault = too_long; first = inl (long, refl); says = too_long_text; untouched = same }
 
 past_limit : (bytes : List ℕ) → length bytes ≡ most_bytes + 1 → most_bytes < length bytes

@@ -1,4 +1,5 @@
 pub mod Inputs
+pub mod Later
 pub mod Refusals
 pub mod Replies
 pub mod Run

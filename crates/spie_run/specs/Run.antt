@@ -2,7 +2,7 @@
 --
 -- Read `Ran` first, at the end: it is the promise of the program, by what the arguments ask for, the status, and what
 -- source, sink, shelf and yard tell before the run and after it.
-use Rattle.std.specs.Prelude.{ℕ, ◌+◌, ◌≤◌, ◌≡◌, ◌⊎◌, ◌↔◌, List, length, Some, None, IsSome}
+use Rattle.std.specs.Prelude.{ℕ, ◌+◌, ◌≤◌, ◌≡◌, ◌⊎◌, ◌↔◌, List, length, Some, None, IsSome, true}
 use Rattle.std.specs.declared.option.Option.{Option}
 use Rattle.std.specs.Io.KnownBytes.{Consumes, Appends, IsAtEnd}
 use Rattle.spie_base.specs.Causes.{Rose}
@@ -14,7 +14,6 @@ use Rattle.play_script.specs.Report.{IsReport}
 use Rattle.play_script.specs.Script.{IsScript}
 use Rattle.play_script.specs.declared.script.PlayScript.{PlayScript}
 use Rattle.router_account.specs.Shelves.{ShelfView}
-use Rattle.trace_format.specs.Fault.{IsFault}
 use Rattle.trace_format.specs.Limits.{most_bytes}
 use Rattle.trace_format.specs.Trace.{IsTrace}
 use Rattle.trace_format.specs.declared.Trace.{Trace}
@@ -22,6 +21,7 @@ use Rattle.trace_format.specs.declared.TraceRefused.{TraceRefused}
 use Rattle.trace_history.specs.Replay.{ReplayViews}
 use Rattle.trace_history.specs.Workers.{IsReplayedBy, YardView}
 use Rattle.trace_history.specs.declared.Totals.{Totals}
+use Rattle.spie_run.specs.Later.{is_first_version, IsUnreplayed}
 use Rattle.spie_run.specs.Refusals.{fault_text}
 use Rattle.spie_run.specs.declared.words.Command.{Command}
 use Rattle.spie_run.specs.declared.words.Command.TheVariants.{Replay, Play}
@@ -42,6 +42,7 @@ pub record Reports (workers : ℕ) (kept : Keeping) (input output : List ℕ) : 
   pub trace : Trace
   pub totals : Totals
   pub read : IsTrace input trace
+  pub version : is_first_version input ≡ true
   pub replayed : IsReplayedBy workers trace output totals kept.shelves kept.yard_after
 
 -- the input is a script, and the output is the text of its steps, done in order from the start
@@ -56,9 +57,9 @@ abbrev pub Outputs : Command → Keeping → (input output : List ℕ) → Type 
 Outputs (Replay workers) kept input output = Reports workers kept input output
 Outputs Play kept input output = Plays kept input output
 
--- the first fault of an input that is no trace, or no script
+-- the first fault of an input that is no trace that is replayed, or no script
 abbrev pub IsFaultFor : Command → (input : List ℕ) → TraceRefused → Type 0
-IsFaultFor (Replay workers) input fault = IsFault input fault
+IsFaultFor (Replay workers) input fault = IsUnreplayed input fault
 IsFaultFor Play input fault = script_text.IsFault input fault
 
 -- the input has a fault, the output says so, and shelf and yard were not used

@@ -1,5 +1,5 @@
 -- The arguments of the command line.
-use Rattle.std.specs.Prelude.{ℕ, ◌≤◌, List, [], ◌∷◌, ◌==◌, Bool, true, false, codes, Some, None, option_map, is_some, if◌then◌else◌}
+use Rattle.std.specs.Prelude.{ℕ, ◌≤◌, List, [], ◌∷◌, ◌==◌, Bool, true, false, codes, Some, None, option_map, if◌then◌else◌}
 use Rattle.std.specs.Str.{bytes_eq}
 use Rattle.std.specs.declared.option.Option.{Option}
 use Rattle.gate_core.specs.declared.limits.TheConstants.{MOST_PASSES}
@@ -15,25 +15,41 @@ none_of_none None = None
 abbrev pub workers_in : (most : ℕ) → (word : List ℕ) → Option ℕ
 workers_in most word = none_of_none (number_in word most)
 
-abbrev pub replay_of : (most : ℕ) → (word workers : List ℕ) → Option Command
-replay_of most word workers = if bytes_eq word (codes "replay") then option_map Replay (workers_in most workers) else None
-
 -- a folder's name has one byte at least
 abbrev pub is_named : (folder : List ℕ) → Bool
 is_named [] = false
 is_named (byte ∷ bytes) = true
 
--- what the arguments ask for, where they are `replay W`, `replay W FOLDER` or `play`, with `most` workers at most
+-- the words behind `replay`: W, or W and FOLDER
+abbrev pub replay_of : (most : ℕ) → List (List ℕ) → Option Command
+replay_of most (workers ∷ []) = option_map Replay (workers_in most workers)
+replay_of most (workers ∷ folder ∷ []) = if is_named folder then option_map Replay (workers_in most workers) else None
+replay_of most _ = None
+
+-- the words behind `play`: none
+abbrev pub play_of : List (List ℕ) → Option Command
+play_of [] = Some Play
+play_of _ = None
+
+-- what the arguments ask for, by the first word and the number of words behind it, with `most` workers at most
 abbrev pub command_of : (most : ℕ) → List (List ℕ) → Option Command
-command_of most (word ∷ []) = if bytes_eq word (codes "play") then Some Play else None
-command_of most (word ∷ workers ∷ []) = replay_of most word workers
-command_of most (word ∷ workers ∷ folder ∷ []) = if is_named folder then replay_of most word workers else None
-command_of most _ = None
+command_of most [] = None
+command_of most (word ∷ rest) =
+    if bytes_eq word (codes "replay") then replay_of most rest else
+    (if bytes_eq word (codes "play") then play_of rest else None)
+
+-- the last of three words
+abbrev pub third_of : List (List ℕ) → Option (List ℕ)
+third_of (word ∷ workers ∷ folder ∷ []) = Some folder
+third_of _ = None
+
+abbrev pub folder_by : Option Command → List (List ℕ) → Option (List ℕ)
+folder_by (Some (Replay workers)) words = third_of words
+folder_by _ words = None
 
 -- the folder of `replay W FOLDER`
 abbrev pub folder_of : List (List ℕ) → Option (List ℕ)
-folder_of (word ∷ workers ∷ folder ∷ []) = if is_some (command_of MOST_PASSES (word ∷ workers ∷ folder ∷ [])) then Some folder else None
-folder_of _ = None
+folder_of words = folder_by (command_of MOST_PASSES words) words
 
 -- a command has from 1 to `most` workers, or none
 abbrev pub HasWorkers : (most : ℕ) → Command → Type 0

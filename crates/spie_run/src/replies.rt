@@ -1,5 +1,5 @@
 // What a command makes of an input.
-ghost use Rattle.std.specs.Prelude.{◌≡◌, ◌≤◌, List, [], true, IfOk, IfErr, OnErr};
+ghost use Rattle.std.specs.Prelude.{◌≡◌, ◌≤◌, List, [], true, IfOk, IfErr, OnOk, OnErr};
 ghost use Rattle.gate_core.specs.declared.limits.TheConstants.{MOST_PASSES};
 ghost use Rattle.play_script.specs.Report.{IsReport};
 ghost use Rattle.play_script.specs.Sound.{IsSound as IsSoundScript};
@@ -8,6 +8,7 @@ ghost use Rattle.trace_format.specs.Sound.{IsSound};
 ghost use Rattle.trace_format.specs.Trace.{IsTrace};
 ghost use Rattle.trace_history.specs.Workers.{YardView};
 ghost use Rattle.trace_replay.specs.Agents.{views_of};
+ghost use Rattle.spie_run.specs.Later.{is_first_version};
 ghost use Rattle.spie_run.specs.Replies.{IsRefusalOf, IsUnread};
 ghost use Rattle.spie_run.specs.Run.{Answers, keeping};
 ghost use Rattle.spie_run.specs.Words.{is_alone};
@@ -21,7 +22,7 @@ use spie_base::{NoMemory, Status};
 use std::alloc::Global;
 use std::sync::Wait;
 use std::thread::Threads;
-use trace_format::{ReadTraceRefused, Trace, TraceRefused, read_trace};
+use trace_format::{ReadTraceRefused, Trace, TraceRefused, WhyRefused, read_trace};
 use trace_replay::{Free, Yard, replay, replay_alone};
 
 /// What is written, and the status that goes with it.
@@ -59,7 +60,16 @@ fn played(alloc: Global, text: Vec<u8>) -> Result<Reply, NoMemory>
     }
 }
 
-// Why a text was not read as a trace.
+// How a trace of version 1 begins.
+const FIRST_VERSION: &[u8] = b"spie-trace 1\n";
+
+// Why a trace of a later version is not replayed.
+const LATER_VERSION: TraceRefused = TraceRefused {
+    line: 1,
+    why: WhyRefused::Field,
+};
+
+// Why a text was not read as a trace that is replayed.
 #[derive(Drop)]
 pub(crate) enum Unread {
     NoMemory,
@@ -74,13 +84,20 @@ struct Read {
     room: Vec<u8>,
 }
 
-// The trace that a text is. Lets go of a text that is none.
+// The trace that a text is, of version 1. Lets go of a text that is none.
 fn trace_of(alloc: Global, text: Vec<u8>) -> Result<Read, Unread>
     ensures trace { IfOk result (λ read. IsTrace text.items read.trace × IsSound read.trace) }
+    ensures first { OnOk result (is_first_version text.items ≡ true) }
     ensures refused { IfErr result (λ why. IsUnread text.items why) }
 {
     match read_trace(alloc, &text) {
-        Ok(trace) => Ok(Read { trace, room: text }),
+        Ok(trace) => {
+            if !text.starts_with(FIRST_VERSION) {
+                drop(text);
+                return Err(refusal_of(alloc, &LATER_VERSION));
+            }
+            Ok(Read { trace, room: text })
+        }
         Err(ReadTraceRefused::Refused(fault)) => {
             drop(text);
             Err(refusal_of(alloc, &fault))

@@ -1,6 +1,6 @@
 // The arguments of the command line.
 ghost use Rattle.std.specs.Prelude.{◌≡◌, ◌≤◌, IfSome, map, option_map, string_bytes};
-ghost use Rattle.spie_run.specs.Words.{HasWorkers, command_of, folder_of, replay_of, workers_in};
+ghost use Rattle.spie_run.specs.Words.{HasWorkers, command_of, folder_of, play_of, replay_of, workers_in};
 
 use gate_core::MOST_PASSES;
 use spie_base::decimal;
@@ -24,39 +24,45 @@ fn workers_in(word: &String, most: u32) -> Option<u32>
     }
 }
 
-fn replay_of(word: &String, workers: &String, most: u32) -> Option<Command>
-    ensures command { result ≡ replay_of most (string_bytes word.now) (string_bytes workers.now) }
+// Behind `replay` stand W, or W and a folder's name.
+fn replay_of(rest: &[String], most: u32) -> Option<Command>
+    ensures command { result ≡ replay_of most (map string_bytes rest.now) }
     ensures range { IfSome result (λ command. HasWorkers most command) }
 {
-    if word.as_str() != "replay" {
-        return None;
-    }
+    let workers = match rest {
+        [workers] => workers,
+        [workers, folder] if !folder.is_empty() => workers,
+        _ => return None,
+    };
     let workers = workers_in(workers, most)?;
     Some(Command::Replay { workers })
 }
 
-/// What the arguments ask for, with `most` workers at most, and `None` for an unknown command or wrong arguments.
+// Behind `play` stands nothing.
+fn play_of(rest: &[String]) -> Option<Command>
+    ensures { result ≡ play_of (map string_bytes rest.now) }
+{
+    match rest {
+        [] => Some(Command::Play),
+        _ => None,
+    }
+}
+
+/// What the arguments ask for, with `most` workers at most, and `None` for an unknown command or wrong arguments. The
+/// first word names the command, and each command looks at the words behind it.
 pub fn command_of(words: &[String], most: u32) -> Option<Command>
     ensures command { result ≡ command_of most (map string_bytes words.now) }
     ensures range { IfSome result (λ command. HasWorkers most command) }
 {
-    match words {
-        [word] => {
-            if word.as_str() == "play" {
-                Some(Command::Play)
-            } else {
-                None
-            }
-        }
-        [word, workers] => replay_of(word, workers, most),
-        [word, workers, folder] => {
-            if folder.is_empty() {
-                None
-            } else {
-                replay_of(word, workers, most)
-            }
-        }
-        _ => None,
+    let [word, rest @ ..] = words else {
+        return None;
+    };
+    if word.as_str() == "replay" {
+        replay_of(rest, most)
+    } else if word.as_str() == "play" {
+        play_of(rest)
+    } else {
+        None
     }
 }
 
@@ -64,14 +70,11 @@ pub fn command_of(words: &[String], most: u32) -> Option<Command>
 pub fn shelf_word(words: &[String]) -> Option<&str>
     ensures { option_map (λ folder. folder.now) result ≡ folder_of (map string_bytes words.now) }
 {
+    let Some(Command::Replay { .. }) = command_of(words, MOST_PASSES) else {
+        return None;
+    };
     match words {
-        [_, _, folder] => {
-            if command_of(words, MOST_PASSES).is_some() {
-                Some(folder.as_str())
-            } else {
-                None
-            }
-        }
+        [_, _, folder] => Some(folder.as_str()),
         _ => None,
     }
 }

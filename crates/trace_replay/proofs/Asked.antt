@@ -224,9 +224,9 @@ module _ {A S : Type 0} (way : Way A) (stands : Standing A) (shown : S → Shown
         let P : ℕ → Type 0 = λ k. RoseBy (sum_over k (λ r. failures (reading_at told sights r))) mid.faults now.faults in
         record {
           still = all.still ∙ old.shelf.still;
-          from = let a = old.shelf.later in let b = all.later in omega (arith, a, b);
+          from = let a = old.shelf.later in let b = all.later in let le : start.faults ≤ mid.faults = omega (arith, a, b) in le;
           paid = subst P count_after sees.paid;
-          to = omega arith;
+          to = let le : now.faults ≤ now.faults = omega arith in le;
         }
 
     event_is : IsEventOf t.sigs line.what event

@@ -5,7 +5,7 @@ use spie_base::NoMemory;
 use std::alloc::Global;
 use std::test::Fail;
 use topology::Topology;
-use traceback_manager::trace;
+use traceback_manager::{trace, trace_joined};
 
 // Three routers in a ring, each in a region of its own.
 const ROUTERS: [(&[u8], &[u8]); 3] = [(b"a", b"r1"), (b"b", b"r2"), (b"c", b"r3")];
@@ -38,8 +38,9 @@ fn ring_over_three_regions(rt: HostRuntime) -> Result<(), Fail> {
     assert_eq!(rt; graph.edges.items(), edges.as_slice());
     assert!(rt; graph.unknown.items().is_empty() && graph.clear.items().is_empty());
     let whole = flood(alloc, &topology, &sights, &at(2))?;
+    let joined = trace_joined(&rt, alloc, &topology, &sights, &at(2))?;
     one_flood();
-    assert!(rt; graph == whole);
+    assert!(rt; graph == whole && graph == joined);
     Ok(())
 }
 

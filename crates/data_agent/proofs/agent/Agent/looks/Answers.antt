@@ -1,4 +1,4 @@
-use Rattle.std.proofs.Common.{◌+◌, ◌-◌, sym, subst, arith}
+use Rattle.std.proofs.Common.{◌≡◌, ◌+◌, ◌-◌, sym, subst, arith}
 use Rattle.router_account.specs.Shelves.{ShelfView}
 use Rattle.shelved_page.specs.Shelving.{view_of}
 use Rattle.shelved_page.proofs.Backs.{gets_then}
@@ -19,3 +19,10 @@ pages-preserved g c =
           (looks_more rules m c.args.from c.pages.number c.pages.looks.items c.in_ok-looked.looked x y z (omega (arith, c.pages.auto.number)) (c.pages.invariant.looked rules m s) c.pages.invariant.gets c.look.ensures.gets
           (c.in_ok-looked.ensures.looked rules m s));
     }
+
+pub returns-clause-looked : goal.returns-clause-looked
+returns-clause-looked g c = λ rules l s.
+    let x : ShelfView = view_of g.H.Shelf.tells g.H.Shelf.contents g.H.Shelf.faults c.args.shelf.now in
+    let z : ShelfView = view_of g.H.Shelf.tells g.H.Shelf.contents g.H.Shelf.faults c.pages.shelf in
+    let all : c.pages.number - c.args.from ≡ c.args.last + 1 - c.args.from = omega (arith, c.pages-test.false, c.pages.invariant.within, c.pages.auto.number) in
+    subst (λ n. LooksTo rules l c.args.from n c.pages.looks.items x z) all (c.pages.invariant.looked rules l s)

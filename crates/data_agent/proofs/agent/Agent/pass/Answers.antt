@@ -10,7 +10,7 @@ use Rattle.data_agent.specs.Calls.{IsLate, IsPassed, IsPassedName, marks_of, num
 use Rattle.data_agent.specs.Finishing.{finished_at}
 use Rattle.data_agent.specs.Passing.{StandsForSame, ticked_at}
 use Rattle.data_agent.specs.Standing.{StandsWhole}
-use Rattle.data_agent.proofs.Barring.{Parts, holds, others, outcome_of, paid, passed, recorded_expired, told, untouched}
+use Rattle.data_agent.proofs.Barring.{Parts, holds, others, outcome_of, paid, passed, recorded_expired, recorded_finished, told, untouched}
 use Rattle.data_agent.proofs.Planes.{own_same, recorded_whole}
 use Rattle.data_agent.proofs.Results.{on_err}
 use Rattle.data_agent.proofs.agent.Agent.pass.Goals as goal
@@ -39,7 +39,8 @@ returns-in_err-archived-clause-recorded g c = on_err _ (recorded_whole c.args.se
 pub returns-in_err-closed-clause-recorded : goal.returns-in_err-closed-clause-recorded
 returns-in_err-closed-clause-recorded g c =
     let recorded : (rules : Rules) (l : Ledger) (u : Unfinished) → StandsWhole c.args.self.now rules l u → StandsForSame c.close.new.self rules l c.args.clock = λ rules l u s.
-    c.in_err-closed.ensures.recorded rules (finished_at l (split_by c.in_ok-archived.archived)) nothing_unfinished (c.in_ok-archived.ensures.finished rules l u s).stands in
+    recorded_finished c.close.new.self rules l (split_by c.in_ok-archived.archived) c.args.clock
+    (c.in_err-closed.ensures.recorded rules (finished_at l (split_by c.in_ok-archived.archived)) nothing_unfinished (c.in_ok-archived.ensures.finished rules l u s).stands) in
     on_err _ recorded
 
 pub expire-requires-clause-stands : goal.expire-requires-clause-stands
