@@ -1,6 +1,9 @@
 // Laws over every agent. The functions do nothing: their contracts are the laws.
 ghost use Rattle.data_agent.specs.Laws.{EntriesAre, EntriesExist, StandsBesideNone};
 
+use crate::Sight;
+use std::marker::Sync;
+
 /// The keeper of an agent has the entries of each ledger for which the agent stands, in any order.
 pub fn entries_are()
     ensures { EntriesAre }
@@ -15,3 +18,11 @@ pub fn entries_exist()
 pub fn stands_beside_none()
     ensures { StandsBesideNone }
 {}
+
+// Takes what threads may share.
+fn share<T: Sync>(_shared: &T) {}
+
+/// Threads may share a sight: `Sight` is `Sync`.
+pub fn sight_is_shared(sight: &Sight) {
+    share(sight);
+}

@@ -70,7 +70,7 @@ mod slots_beside;
 mod watch;
 
 pub use agent::Agent;
-pub use laws::{entries_are, entries_exist, stands_beside_none};
+pub use laws::{entries_are, entries_exist, sight_is_shared, stands_beside_none};
 pub use outcome::{Archived, Barrier, Closed};
 pub use resident::Resident;
 pub use sight::Sight;

@@ -15,9 +15,11 @@ use crate::words::{What, Work, read_words};
 use reverse_flood::{Graph, Node, flood};
 use spie_base::{NoMemory, RouterId};
 use std::alloc::Global;
+use std::marker::Sync;
 use std::process::ExitCode;
+use std::thread::Threads;
 use topology::{ROUTERS_MOST, Topology};
-use traceback_manager::trace;
+use traceback_manager::{trace, trace_joined};
 
 /// What the last of the floods found.
 #[derive(Clone, Copy)]
@@ -41,7 +43,8 @@ fn wired(alloc: Global, reach: u8) -> Option<Topology> {
     Some(topology)
 }
 
-fn once(
+fn once<R: Threads + Sync>(
+    rt: &R,
     alloc: Global,
     what: What,
     topology: &Topology,
@@ -57,11 +60,12 @@ fn once(
     let graph = match what {
         What::Flood => flood(alloc, topology, sights, start)?,
         What::Trace => trace(alloc, topology, sights, start)?,
+        What::Joined => trace_joined(rt, alloc, topology, sights, start)?,
     };
     Ok(Some(graph))
 }
 
-fn done(alloc: Global, work: &Work) -> Result<Option<Counts>, NoMemory> {
+fn done<R: Threads + Sync>(rt: &R, alloc: Global, work: &Work) -> Result<Option<Counts>, NoMemory> {
     let Some(topology) = wired(alloc, work.reach) else {
         return Ok(None);
     };
@@ -72,7 +76,7 @@ fn done(alloc: Global, work: &Work) -> Result<Option<Counts>, NoMemory> {
     };
     let mut counts = Counts { nodes: 0, edges: 0 };
     for _ in 0..work.times {
-        let Some(graph) = once(alloc, work.what, &topology, &sights, &start)? else {
+        let Some(graph) = once(rt, alloc, work.what, &topology, &sights, &start)? else {
             return Ok(None);
         };
         counts = Counts {
@@ -90,7 +94,7 @@ fn main(rt: HostRuntime) -> ExitCode {
         Ok(None) => return ExitCode::from(2),
         Err(_) => return ExitCode::from(6),
     };
-    match done(alloc, &work) {
+    match done(&rt, alloc, &work) {
         Ok(Some(counts)) => {
             if println!(rt; "{} {}", counts.nodes, counts.edges).is_ok() {
                 ExitCode::from(0)

@@ -7,6 +7,7 @@ use std::env;
 pub enum What {
     Flood,
     Trace,
+    Joined,
 }
 
 #[derive(Clone, Copy)]
@@ -22,6 +23,7 @@ fn what_is(word: &str) -> Option<What> {
     match word {
         "flood" => Some(What::Flood),
         "trace" => Some(What::Trace),
+        "joined" => Some(What::Joined),
         _ => None,
     }
 }
