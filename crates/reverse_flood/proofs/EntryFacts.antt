@@ -1,5 +1,5 @@
 -- Further entries of a search.
-use Rattle.std.proofs.Common.{◌≡◌, ◌∙◌, ℕ, ◌+◌, ◌<◌, ◌≤◌, ◌⊎◌, inl, inr, ⊎_elim, Bool, true, List, [], ◌∷◌, ◌++◌, length, Option, None, refl, sym, subst, ap, append-nil, arith, IsTrue}
+use Rattle.std.proofs.Common.{◌≡◌, ℕ, ◌<◌, ◌≤◌, inl, inr, ⊎_elim, Bool, List, [], ◌∷◌, ◌++◌, length, Option, None, refl, sym, subst, IsTrue}
 use Rattle.std.proofs.lemmas.List.Elements.{Contains-append_left, Contains-append_right, Contains-append_cases}
 use Rattle.std.specs.List.{Contains}
 use Rattle.spie_base.proofs.Membership.{has_none, has_first, has_one, into_map}
@@ -10,7 +10,7 @@ use Rattle.reverse_flood.specs.declared.cells.Search.{Search}
 use Rattle.reverse_flood.specs.declared.leads.Lead.{Lead}
 use Rattle.reverse_flood.specs.declared.leads.Leads.{Leads}
 use Rattle.reverse_flood.specs.Flood.{Net, IsAsked, IsNext}
-use Rattle.reverse_flood.specs.Search.{is_named, IsUnderWay}
+use Rattle.reverse_flood.specs.Search.{IsUnderWay}
 use Rattle.reverse_flood.specs.Leads.{HomeFrom, Names, PushesLead, nodes_of}
 use Rattle.reverse_flood.proofs.AskFacts.{settled_kept}
 use Rattle.reverse_flood.proofs.LeadFacts.{names_keep}

@@ -1,10 +1,9 @@
 -- What a search takes up of another, cell by cell.
-use Rattle.std.proofs.Common.{◌≡◌, ◌∙◌, ℕ, zero, suc, ◌+◌, ◌<◌, ◌≤◌, ◌⊎◌, inl, inr, ⊎_elim, Bool, true, false, List, [], ◌∷◌, ◌++◌, length, take, get_or, slice_get, Option, Some, None, refl, sym, subst, ap, arith}
+use Rattle.std.proofs.Common.{◌≡◌, ◌∙◌, ℕ, ◌+◌, ◌<◌, ◌≤◌, ◌⊎◌, inl, inr, ⊎_elim, Bool, true, false, List, [], ◌∷◌, ◌++◌, length, take, get_or, slice_get, Option, Some, refl, sym, subst, ap, arith}
 use Rattle.std.proofs.lemmas.Bool.{cases_lt, false≢true}
 use Rattle.std.proofs.lemmas.List.{length-append, get_or-append-add, take_more}
 use Rattle.std.proofs.lemmas.List.Elements.{Contains-push_cases}
 use Rattle.std.proofs.lemmas.Option.{slice_get-get_or, slice_get_past}
-use Rattle.std.specs.BTreeMap.{get}
 use Rattle.std.specs.List.{Contains}
 use Rattle.std.specs.List.Sorted.{IsStrictlySortedBy}
 use Rattle.std.specs.Map.{keys_of}
@@ -17,9 +16,8 @@ use Rattle.reverse_flood.specs.declared.graphs.Node.{Node}
 use Rattle.reverse_flood.specs.declared.cells.Cell.{Cell}
 use Rattle.reverse_flood.specs.declared.cells.Cell.TheVariants.{Free, Waiting, Unseen, Alone, Changed}
 use Rattle.reverse_flood.specs.declared.cells.Search.{Search}
-use Rattle.reverse_flood.specs.Rows.{AreRows, node_eq}
-use Rattle.reverse_flood.specs.Search.{cell_at, is_hit_cell, is_named, is_taken, origins_by, rows_in, IsFine}
-use Rattle.reverse_flood.specs.Unions.{behind, has_line, has_sig, is_here, IsAt, IsTakenUp, Moves, TakesUp, TellsSame}
+use Rattle.reverse_flood.specs.Search.{cell_at, is_hit_cell, is_named, is_taken, origins_by, IsFine}
+use Rattle.reverse_flood.specs.Unions.{behind, has_line, has_sig, is_here, IsAt, Moves, TakesUp, TellsSame}
 use Rattle.reverse_flood.proofs.CellFacts.{Writes, cell_same, origins_kept, rows_kept, same_place, written, written_here}
 use Rattle.reverse_flood.proofs.ToldFacts.{named_key}
 

@@ -1,4 +1,4 @@
-use Rattle.std.proofs.Common.{◌∙◌, ◌<◌, ◌++◌, [], ℕ, Bool, IsTrue, List, length, sym, append-nil, ⊎_elim, inl, inr, refl, subst, ap}
+use Rattle.std.proofs.Common.{◌∙◌, ◌<◌, ◌++◌, ℕ, Bool, IsTrue, List, length, sym, append-nil, ⊎_elim, inl, inr, refl, subst, ap}
 use Rattle.std.specs.List.{Contains}
 use Rattle.std.proofs.lemmas.List.Elements.{Contains-append_left}
 use Rattle.reverse_flood.specs.declared.leads.Lead.{Lead}

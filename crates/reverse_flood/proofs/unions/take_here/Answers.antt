@@ -1,4 +1,4 @@
-use Rattle.std.proofs.Common.{◌≡◌, ◌∙◌, ◌<◌, ◌≤◌, arith, eq-eqb, sym, subst}
+use Rattle.std.proofs.Common.{◌≡◌, ◌∙◌, arith, eq-eqb, sym, subst}
 use Rattle.std.specs.Prelude.{slice_index}
 use Rattle.std.proofs.lemmas.Bool.{eqb-true}
 use Rattle.reverse_flood.specs.declared.graphs.Node.{Node}

@@ -1,4 +1,4 @@
-use Rattle.std.proofs.Common.{◌≡◌, ◌<◌, Some}
+use Rattle.std.proofs.Common.{◌≡◌, Some}
 use Rattle.reverse_flood.specs.Search.{rows_in}
 use Rattle.reverse_flood.specs.Unions.{Moves}
 use Rattle.reverse_flood.proofs.UnionFacts.{below_with}

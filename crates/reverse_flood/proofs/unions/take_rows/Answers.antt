@@ -1,7 +1,7 @@
-use Rattle.std.proofs.Common.{◌≡◌, ◌∙◌, ◌+◌, ◌<◌, ◌^◌, [], length, take, get_or, sym, subst, ap, arith}
+use Rattle.std.proofs.Common.{◌+◌, [], length, take, sym, subst, ap, arith}
 use Rattle.std.proofs.lemmas.List.Elements.{Contains-get_or}
 use Rattle.spie_base.proofs.Membership.{has_none}
-use Rattle.reverse_flood.specs.Unions.{has_line, has_sig}
+use Rattle.reverse_flood.specs.Unions.{has_line}
 use Rattle.reverse_flood.proofs.UnionFacts.{line_next, moves_for, moves_join, moves_none, no_pairs}
 use Rattle.reverse_flood.proofs.WayFacts.{take_done}
 use Rattle.reverse_flood.proofs.unions.take_rows.Goals as goal

@@ -1,4 +1,4 @@
-use Rattle.std.proofs.Common.{◌≡◌, ◌∙◌, ◌++◌, ℕ, List, sym, subst, ap, refl}
+use Rattle.std.proofs.Common.{◌∙◌, ◌++◌, ℕ, List, subst, ap, refl}
 use Rattle.std.specs.List.{Contains}
 use Rattle.spie_base.specs.declared.Sig.{Sig}
 use Rattle.reverse_flood.specs.Unions.{has_line, Moves}
