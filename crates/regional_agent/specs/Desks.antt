@@ -1,11 +1,10 @@
 -- A region that is asked beside others, round by round.
-use Rattle.std.specs.Prelude.{◌≡◌, ◌⊎◌, ◌<◌, ℕ, Bool, true, false, List, [], ◌++◌, filter}
+use Rattle.std.specs.Prelude.{◌≡◌, ◌⊎◌, ◌<◌, ℕ, true, false, List, [], ◌++◌, filter}
 use Rattle.std.specs.List.{Contains}
 use Rattle.topology.specs.Layout.{Layout}
 use Rattle.topology.specs.declared.limits.TheConstants.{ROUTERS_MOST}
 use Rattle.reverse_flood.specs.declared.graphs.Node.{Node}
 use Rattle.reverse_flood.specs.declared.leads.Lead.{Lead}
-use Rattle.reverse_flood.specs.declared.cells.Search.{Search}
 use Rattle.reverse_flood.specs.Flood.{Net, everywhere, in_region}
 use Rattle.reverse_flood.specs.Leads.{nodes_of, AreLeads, IsAmong}
 use Rattle.reverse_flood.specs.Search.{is_named, IsFine, IsUnderWay}

@@ -1,4 +1,4 @@
-use Rattle.std.proofs.Common.{◌≡◌, ◌∙◌, ◌⊎◌, ◌<◌, ◌++◌, [], true, List, length, ⊎_elim, inl, inr, refl, sym, subst, ap}
+use Rattle.std.proofs.Common.{◌∙◌, ◌++◌, List, ⊎_elim, inl, inr, refl, sym, subst}
 use Rattle.std.specs.Prelude.{slice_index}
 use Rattle.std.specs.List.{Contains}
 use Rattle.std.proofs.lemmas.Bool.{eqb-true}
@@ -9,7 +9,6 @@ use Rattle.reverse_flood.specs.Flood.{net_of, everywhere, in_region}
 use Rattle.reverse_flood.specs.Leads.{nodes_of}
 use Rattle.reverse_flood.specs.Search.{IsUnderWay}
 use Rattle.regional_agent.specs.Answers.{IsHome}
-use Rattle.regional_agent.specs.Desks.{lying}
 use Rattle.regional_agent.proofs.desks.ask_desk.Goals as goal
 
 pub enter-requires-clause-exist : goal.enter-requires-clause-exist
