@@ -1,5 +1,5 @@
 -- The pages of a sight, one behind the other.
-use Rattle.std.proofs.Common.{ℕ, ◌≡◌, ◌≤◌, ◌<◌, ◌+◌, ◌-◌, ◌∷◌, [], ◌++◌, ◌∙◌, ◌&&◌, ◌||◌, List, length, map, filter, cond, Bool, true, false, not, Option, Some, None, sym, ap, subst, refl, inl, inr, arith, length-append, append-nil}
+use Rattle.std.proofs.Common.{ℕ, ◌≡◌, ◌≤◌, ◌<◌, ◌+◌, ◌∷◌, [], ◌++◌, ◌∙◌, ◌&&◌, ◌||◌, List, length, map, filter, cond, Bool, true, false, not, Option, Some, None, sym, ap, subst, refl, inl, inr, arith, length-append, append-nil}
 use Rattle.std.specs.List.{Contains, filter_map, cons_option, list_any, range_with_len, AllByRecursion}
 use Rattle.std.specs.List.Sorted.{IsStrictlySortedBy}
 use Rattle.std.specs.Ordering.{nat_cmp}

@@ -1,5 +1,5 @@
 -- What a sight shows and tells. No public clause looks into it.
-use Rattle.std.specs.Prelude.{List, map, filter, ◌&&◌, ◌||◌, ◌++◌, not, length, ◌==◌, ℕ, ◌-◌, ◌∷◌, [], is_some, nat_le, min, Option, None, Some, if◌then◌else◌}
+use Rattle.std.specs.Prelude.{List, map, filter, ◌&&◌, ◌||◌, ◌++◌, not, length, ◌==◌, ℕ, ◌-◌, ◌∷◌, is_some, nat_le, min, Option, None, Some, if◌then◌else◌}
 use Rattle.std.specs.List.{list_any, flat_map}
 use Rattle.spie_base.specs.Shown.{Shown}
 use Rattle.spie_base.specs.declared.PageRange.{PageRange}
