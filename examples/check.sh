@@ -77,6 +77,16 @@ check "another version" 3 $?
 says "another version" "spie: line 1: a field is not of its form, or out of its range"
 [ "$(cat "$out")" = "refused 1 field" ] || { echo "another version: another refusal"; failed=1; }
 
+printf 'spie-play 1\ncore 1 1 6 0000000000000000\n0 jump\nend\n' | "$spie" play > "$out" 2> "$err"
+check "no such step" 3 $?
+says "no such step" "spie: line 3: no word that may stand here"
+[ "$(cat "$out")" = "refused 3 word" ] || { echo "no such step: another refusal"; failed=1; }
+
+head -c 67108865 /dev/zero | "$spie" replay 1 > "$out" 2> "$err"
+check "too long an input" 3 $?
+says "too long an input" "spie: the input has more than 67,108,864 bytes"
+[ "$(cat "$out")" = "refused 0 too-long" ] || { echo "too long an input: another refusal"; failed=1; }
+
 "$spie" replay 1 < "$here" > "$out" 2> "$err"
 check "a folder as input" 4 $?
 says "a folder as input" "spie: the input can't be read"

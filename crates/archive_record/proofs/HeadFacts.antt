@@ -4,6 +4,7 @@ use Rattle.std.specs.Int.{w32, w64, to_be_bytes}
 use Rattle.byteorder.specs.Endian.{big_bytes}
 use Rattle.spie_base.specs.declared.types.RouterId.{RouterId}
 use Rattle.spie_base.specs.declared.types.PageNo.{PageNo}
+use Rattle.spie_base.specs.declared.types.TheConstants.{N_MOST}
 use Rattle.archive_record.specs.Reading.{◌>>=◌, number_in, name_at, shape_at, times_at}
 use Rattle.archive_record.proofs.FieldFacts.{IsBytes, bind_ok, ok_is, Takes, Takes-then, wide1, wide2, wide4, wide8, number_takes, number_again}
 
@@ -48,36 +49,37 @@ Shape = (ℕ × ℕ) × List ℕ
 abbrev pub shape_made : (k n none : ℕ × List ℕ) → Shape
 shape_made k n none = ((k.0, n.0), none.1)
 
-pub record TakesShape (bytes : List ℕ) (x : (ℕ × ℕ) × List ℕ) : Type 0 where
+pub record TakesShape (least most_n : ℕ) (bytes : List ℕ) (x : (ℕ × ℕ) × List ℕ) : Type 0 where
   pub takes : Takes bytes (x.0.0 ∷ x.0.1 ∷ 0 ∷ 0 ∷ []) x.1
   pub some : 1 ≤ x.0.0
   pub most : x.0.0 ≤ 8
-  pub low : 6 ≤ x.0.1
-  pub high : x.0.1 ≤ 16
+  pub low : least ≤ x.0.1
+  pub high : x.0.1 ≤ most_n
 
-pub shape_takes : (bytes : List ℕ) (x : (ℕ × ℕ) × List ℕ) → IsBytes bytes → shape_at bytes ≡ Ok x → TakesShape bytes x
+-- the most that a magic allows is a byte
+pub shape_takes : (least most_n : ℕ) → most_n ≤ N_MOST → (bytes : List ℕ) (x : (ℕ × ℕ) × List ℕ) → IsBytes bytes → shape_at least most_n bytes ≡ Ok x → TakesShape least most_n bytes x
 unfolding shape_at
-shape_takes bytes x fits e =
-    let a = bind_ok (number_in 1 1 8 bytes) (λ k. number_in 1 6 16 k.1 >>= λ n. number_in 2 0 0 n.1 >>= λ none. Ok (shape_made k n none)) x e in
-    let b = bind_ok (number_in 1 6 16 a.0.1) (λ n. number_in 2 0 0 n.1 >>= λ none. Ok (shape_made a.0 n none)) x a.2 in
+shape_takes least most_n short bytes x fits e =
+    let a = bind_ok (number_in 1 1 8 bytes) (λ k. number_in 1 least most_n k.1 >>= λ n. number_in 2 0 0 n.1 >>= λ none. Ok (shape_made k n none)) x e in
+    let b = bind_ok (number_in 1 least most_n a.0.1) (λ n. number_in 2 0 0 n.1 >>= λ none. Ok (shape_made a.0 n none)) x a.2 in
     let c = bind_ok (number_in 2 0 0 b.0.1) (λ none. Ok (shape_made a.0 b.0 none)) x b.2 in
     let t0 = number_takes 1 1 8 wide1 bytes a.0 fits a.1 in
-    let t1 = number_takes 1 6 16 wide1 a.0.1 b.0 t0.takes.rest_fits b.1 in
+    let t1 = number_takes 1 least most_n wide1 a.0.1 b.0 t0.takes.rest_fits b.1 in
     let t2 = number_takes 2 0 0 wide2 b.0.1 c.0 t1.takes.rest_fits c.1 in
     let nothing : c.0.0 ≡ 0 = omega (arith, t2.below) in
     let k-text : Takes bytes (a.0.0 ∷ []) a.0.1 = subst (λ (t : List ℕ). Takes bytes t a.0.1) (one_byte a.0.0 (omega (arith, t0.below))) t0.takes in
-    let n-text : Takes a.0.1 (b.0.0 ∷ []) b.0.1 = subst (λ (t : List ℕ). Takes a.0.1 t b.0.1) (one_byte b.0.0 (omega (arith, t1.below))) t1.takes in
+    let n-text : Takes a.0.1 (b.0.0 ∷ []) b.0.1 = subst (λ (t : List ℕ). Takes a.0.1 t b.0.1) (one_byte b.0.0 (omega (arith, t1.below, short))) t1.takes in
     let zeros : Takes b.0.1 (0 ∷ 0 ∷ []) c.0.1 = subst (λ (z : ℕ). Takes b.0.1 (big_bytes 2 z) c.0.1) nothing t2.takes in
-    subst (λ (y : Shape). TakesShape bytes y) (ok_is (shape_made a.0 b.0 c.0) x c.2)
+    subst (λ (y : Shape). TakesShape least most_n bytes y) (ok_is (shape_made a.0 b.0 c.0) x c.2)
     (record { takes = Takes-then bytes (a.0.0 ∷ []) a.0.1 (b.0.0 ∷ 0 ∷ 0 ∷ []) c.0.1 k-text (Takes-then a.0.1 (b.0.0 ∷ []) b.0.1 (0 ∷ 0 ∷ []) c.0.1 n-text zeros); some = t0.above; most = t0.below; low = t1.above; high = t1.below })
 
-pub shape_again : (k n : ℕ) (rest : List ℕ) → 1 ≤ k → k ≤ 8 → 6 ≤ n → n ≤ 16 → shape_at (k ∷ n ∷ 0 ∷ 0 ∷ rest) ≡ Ok ((k, n), rest)
+pub shape_again : (least most_n : ℕ) → most_n ≤ N_MOST → (k n : ℕ) (rest : List ℕ) → 1 ≤ k → k ≤ 8 → least ≤ n → n ≤ most_n → shape_at least most_n (k ∷ n ∷ 0 ∷ 0 ∷ rest) ≡ Ok ((k, n), rest)
 unfolding shape_at
-shape_again k n rest some most low high =
+shape_again least most_n short k n rest some most low high =
     let k-read : number_in 1 1 8 (k ∷ n ∷ 0 ∷ 0 ∷ rest) ≡ Ok (k, n ∷ 0 ∷ 0 ∷ rest) = ap (λ (t : List ℕ). number_in 1 1 8 (t ++ n ∷ 0 ∷ 0 ∷ rest)) (sym (one_byte k (omega (arith, most)))) ∙ number_again 1 1 8 k (n ∷ 0 ∷ 0 ∷ rest) some most (omega (arith, most)) in
-    let n-read : number_in 1 6 16 (n ∷ 0 ∷ 0 ∷ rest) ≡ Ok (n, 0 ∷ 0 ∷ rest) = ap (λ (t : List ℕ). number_in 1 6 16 (t ++ 0 ∷ 0 ∷ rest)) (sym (one_byte n (omega (arith, high)))) ∙ number_again 1 6 16 n (0 ∷ 0 ∷ rest) low high (omega (arith, high)) in
+    let n-read : number_in 1 least most_n (n ∷ 0 ∷ 0 ∷ rest) ≡ Ok (n, 0 ∷ 0 ∷ rest) = ap (λ (t : List ℕ). number_in 1 least most_n (t ++ 0 ∷ 0 ∷ rest)) (sym (one_byte n (omega (arith, high, short)))) ∙ number_again 1 least most_n n (0 ∷ 0 ∷ rest) low high (omega (arith, high, short)) in
     let none-read : number_in 2 0 0 (0 ∷ 0 ∷ rest) ≡ Ok (0, rest) = number_again 2 0 0 0 rest (omega arith) (omega arith) (omega arith) in
-    ap (λ (r : Result (ℕ × List ℕ) ℕ). r >>= λ k. number_in 1 6 16 k.1 >>= λ n. number_in 2 0 0 n.1 >>= λ none. Ok (shape_made k n none)) k-read
+    ap (λ (r : Result (ℕ × List ℕ) ℕ). r >>= λ k. number_in 1 least most_n k.1 >>= λ n. number_in 2 0 0 n.1 >>= λ none. Ok (shape_made k n none)) k-read
     ∙ ap (λ (r : Result (ℕ × List ℕ) ℕ). r >>= λ n. number_in 2 0 0 n.1 >>= λ none. Ok ((k, n.0), none.1)) n-read
     ∙ ap (λ (r : Result (ℕ × List ℕ) ℕ). r >>= λ none. Ok ((k, n), none.1)) none-read
 

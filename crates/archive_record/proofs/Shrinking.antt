@@ -1,13 +1,15 @@
 -- Reading goes from left to right: where it stops, no more bytes are left than there were.
-use Rattle.std.proofs.Common.{◌≡◌, ℕ, zero, suc, ◌-◌, ◌*◌, ◌^◌, ◌≤◌, Bool, true, false, cond, leb, eqb, ◌&&◌, List, length, take, drop, Result, Ok, Err, subst, arith}
+use Rattle.std.proofs.Common.{◌≡◌, ℕ, zero, suc, ◌+◌, ◌-◌, ◌*◌, ◌^◌, ◌≤◌, Bool, true, false, cond, leb, eqb, ◌&&◌, List, length, take, drop, Result, Ok, Err, subst, arith}
 use Rattle.std.proofs.lemmas.List.{length-drop}
 use Rattle.byteorder.specs.Endian.{big_number}
 use Rattle.packet_signature.specs.declared.Kind.{Kind}
+use Rattle.spie_base.specs.declared.types.TheConstants.{N_LEAST, N_MOST}
 use Rattle.archive_record.specs.declared.records.Record.{Record}
-use Rattle.archive_record.specs.Reading.{◌>>=◌, number_in, bytes_in, first_words, words_in, name_at, shape_at, times_at, bits_at, kind_at, least_flag, old_in, old_at, row_at, rows_in, rows_at, record_at, whole_at}
+use Rattle.archive_record.specs.declared.records.TheConstants.{SPB1_N_MOST}
+use Rattle.archive_record.specs.Reading.{◌>>=◌, number_in, bytes_in, first_words, words_in, name_at, shape_at, times_at, bits_at, kind_at, least_flag, old_in, old_at, row_at, rows_in, rows_at, behind_magic, record_at, whole_at}
 use Rattle.archive_record.proofs.HeadFacts.{name_made, shape_made, times_made}
 use Rattle.archive_record.proofs.RowFacts.{kind_made, direct_made, indirect_made, row_made, rows_made}
-use Rattle.archive_record.proofs.RecordFacts.{bits_made, all_rows_made, behind}
+use Rattle.archive_record.proofs.RecordFacts.{bits_made, all_rows_made, no_first, no_bits}
 
 abbrev Shrinks : {A : Type 0} → (size : ℕ) → Result (A × List ℕ) ℕ → Type 0
 Shrinks size (Ok x) = length x.1 ≤ size
@@ -50,11 +52,11 @@ name bytes =
     and_then (length bytes) (number_in 4 0 63 bytes) (λ router. number_in 4 0 0xffffffff router.1 >>= λ page. Ok (name_made router page)) (number 4 0 63 bytes)
     (λ router. and_then (length router.1) (number_in 4 0 0xffffffff router.1) (λ page. Ok (name_made router page)) (number 4 0 0xffffffff router.1) (λ page. same (length page.1)))
 
-shape : (bytes : List ℕ) → Shrinks (length bytes) (shape_at bytes)
+shape : (least most : ℕ) (bytes : List ℕ) → Shrinks (length bytes) (shape_at least most bytes)
 unfolding shape_at
-shape bytes =
-    and_then (length bytes) (number_in 1 1 8 bytes) (λ k. number_in 1 6 16 k.1 >>= λ n. number_in 2 0 0 n.1 >>= λ none. Ok (shape_made k n none)) (number 1 1 8 bytes)
-    (λ k. and_then (length k.1) (number_in 1 6 16 k.1) (λ n. number_in 2 0 0 n.1 >>= λ none. Ok (shape_made k n none)) (number 1 6 16 k.1)
+shape least most bytes =
+    and_then (length bytes) (number_in 1 1 8 bytes) (λ k. number_in 1 least most k.1 >>= λ n. number_in 2 0 0 n.1 >>= λ none. Ok (shape_made k n none)) (number 1 1 8 bytes)
+    (λ k. and_then (length k.1) (number_in 1 least most k.1) (λ n. number_in 2 0 0 n.1 >>= λ none. Ok (shape_made k n none)) (number 1 least most k.1)
     (λ n. and_then (length n.1) (number_in 2 0 0 n.1) (λ none. Ok (shape_made k n none)) (number 2 0 0 n.1) (λ none. same (length none.1))))
 
 times : (bytes : List ℕ) → Shrinks (length bytes) (times_at bytes)
@@ -64,11 +66,11 @@ times bytes =
     (λ seed. and_then (length seed.1) (number_in 8 0 0xffffffffffff seed.1) (λ opened. number_in 8 opened.0 0xffffffffffff opened.1 >>= λ closed. Ok (times_made seed opened closed)) (number 8 0 0xffffffffffff seed.1)
     (λ opened. and_then (length opened.1) (number_in 8 opened.0 0xffffffffffff opened.1) (λ closed. Ok (times_made seed opened closed)) (number 8 opened.0 0xffffffffffff opened.1) (λ closed. same (length closed.1))))
 
-bits : (bytes : List ℕ) → Shrinks (length bytes) (bits_at bytes)
+bits : (least most : ℕ) (bytes : List ℕ) → Shrinks (length bytes) (bits_at least most bytes)
 unfolding bits_at
-bits bytes =
-    and_then (length bytes) (name_at bytes) (λ name. shape_at name.1 >>= λ shape. times_at shape.1 >>= λ times. words_in (2 ^ (shape.0.1 - 6)) times.1 >>= λ words. Ok (bits_made name shape times words)) (name bytes)
-    (λ a. and_then (length a.1) (shape_at a.1) (λ shape. times_at shape.1 >>= λ times. words_in (2 ^ (shape.0.1 - 6)) times.1 >>= λ words. Ok (bits_made a shape times words)) (shape a.1)
+bits least most bytes =
+    and_then (length bytes) (name_at bytes) (λ name. shape_at least most name.1 >>= λ shape. times_at shape.1 >>= λ times. words_in (2 ^ (shape.0.1 - 6)) times.1 >>= λ words. Ok (bits_made name shape times words)) (name bytes)
+    (λ a. and_then (length a.1) (shape_at least most a.1) (λ shape. times_at shape.1 >>= λ times. words_in (2 ^ (shape.0.1 - 6)) times.1 >>= λ words. Ok (bits_made a shape times words)) (shape least most a.1)
     (λ b. and_then (length b.1) (times_at b.1) (λ times. words_in (2 ^ (b.0.1 - 6)) times.1 >>= λ words. Ok (bits_made a b times words)) (times b.1)
     (λ c. and_then (length c.1) (words_in (2 ^ (b.0.1 - 6)) c.1) (λ words. Ok (bits_made a b c words)) (words (2 ^ (b.0.1 - 6)) c.1) (λ d. same (length d.1)))))
 
@@ -105,17 +107,22 @@ all_rows bytes =
     (λ a. and_then (length a.1) (number_in 4 0 1000000 a.1) (λ count. rows_in count.0 count.1 >>= λ rows. Ok (all_rows_made a rows)) (number 4 0 1000000 a.1)
     (λ b. and_then (length b.1) (rows_in b.0 b.1) (λ rows. Ok (all_rows_made a rows)) (rows b.0 b.1) (λ c. same (length c.1))))
 
+behind : (size magic : ℕ) (bytes : List ℕ) → length bytes ≤ size → Shrinks size (behind_magic size magic bytes)
+behind size magic bytes h =
+    either (eqb magic 0x53504231) size (bits_at N_LEAST SPB1_N_MOST bytes) (no_first size magic bytes)
+    (weaker (length bytes) size (bits_at N_LEAST SPB1_N_MOST bytes) h (bits N_LEAST SPB1_N_MOST bytes))
+    (either (eqb magic 0x53504232) size (bits_at (SPB1_N_MOST + 1) N_MOST bytes) (no_bits size magic bytes)
+    (weaker (length bytes) size (bits_at (SPB1_N_MOST + 1) N_MOST bytes) h (bits (SPB1_N_MOST + 1) N_MOST bytes))
+    (either (eqb magic 0x53505431) size (rows_at bytes) (Err size) (weaker (length bytes) size (rows_at bytes) h (all_rows bytes)) (same size)))
+
 record_shrinks : (bytes : List ℕ) → Shrinks (length bytes) (record_at bytes)
 unfolding record_at
 record_shrinks bytes =
     weak_magic (number_in 4 0 0xffffffff bytes) (number 4 0 0xffffffff bytes)
   where
-    weak_magic : (r : Result (ℕ × List ℕ) ℕ) → Shrinks (length bytes) r → Shrinks (length bytes) (r >>= behind (length bytes))
+    weak_magic : (r : Result (ℕ × List ℕ) ℕ) → Shrinks (length bytes) r → Shrinks (length bytes) (r >>= λ magic. behind_magic (length bytes) magic.0 magic.1)
     weak_magic (Err left) h = h
-    weak_magic (Ok magic) h =
-        either (eqb magic.0 0x53504231) (length bytes) (bits_at magic.1) (cond (eqb magic.0 0x53505431) (rows_at magic.1) (Err (length bytes)))
-        (weaker (length magic.1) (length bytes) (bits_at magic.1) h (bits magic.1))
-        (either (eqb magic.0 0x53505431) (length bytes) (rows_at magic.1) (Err (length bytes)) (weaker (length magic.1) (length bytes) (rows_at magic.1) h (all_rows magic.1)) (same (length bytes)))
+    weak_magic (Ok magic) h = behind (length bytes) magic.0 magic.1 h
 
 ended : (size left : ℕ) (r : Result (Record × List ℕ) ℕ) → Shrinks size r → (r >>= λ found. cond (eqb (length found.1) 0) (Ok found.0) (Err (length found.1))) ≡ Err left → left ≤ size
 ended size left (Err at) h e = subst (λ (n : ℕ). n ≤ size) (err_is at left e) h

@@ -1,9 +1,10 @@
 -- The one spelling of a record. Numbers are big-endian.
-use Rattle.std.specs.Prelude.{ℕ, ◌^◌, ◌<◌, ◌≤◌, ◌≡◌, List, [], ◌∷◌, ◌++◌, length, slice_index}
+use Rattle.std.specs.Prelude.{ℕ, ◌^◌, ◌<◌, ◌≤◌, ◌≡◌, List, [], ◌∷◌, ◌++◌, length, slice_index, nat_le, if◌then◌else◌}
 use Rattle.std.specs.List.{flat_map, All}
 use Rattle.std.specs.Int.{w32, w64, to_be_bytes}
 use Rattle.spie_base.specs.declared.PageNo.{PageNo}
 use Rattle.spie_base.specs.declared.RouterId.{RouterId}
+use Rattle.spie_base.specs.declared.types.TheConstants.{N_LEAST, N_MOST}
 use Rattle.bloom_page.specs.Bits.{members_of}
 use Rattle.bloom_page.specs.Sets.{PageSet, words_of}
 use Rattle.packet_signature.specs.declared.Kind.{Kind}
@@ -16,6 +17,7 @@ use Rattle.archive_record.specs.declared.records.BitsRecord.{BitsRecord}
 use Rattle.archive_record.specs.declared.records.RowsRecord.{RowsRecord}
 use Rattle.archive_record.specs.declared.records.Record.{Record}
 use Rattle.archive_record.specs.declared.records.Record.TheVariants.{Bits, Rows}
+use Rattle.archive_record.specs.declared.records.TheConstants.{SPB1_N_MOST}
 
 -- a bits record of a page, and a rows record
 abbrev pub bits_record : BitsHead → PageSet → BitsRecord
@@ -24,10 +26,11 @@ bits_record head bits = record { router = head.router; page = head.page; k = hea
 abbrev pub rows_record : RouterId → PageNo → List Row → RowsRecord
 rows_record router page rows = record { router = router; page = page; rows = rows }
 
--- `SPB1` and `SPT1`
-abbrev pub bits_magic : List ℕ
-bits_magic = 0x53 ∷ 0x50 ∷ 0x42 ∷ 0x31 ∷ []
+-- `SPB1` for positions of 6 to 16 bits, and `SPB2` for longer ones
+abbrev pub bits_magic : (n : ℕ) → List ℕ
+bits_magic n = 0x53 ∷ 0x50 ∷ 0x42 ∷ (if nat_le n SPB1_N_MOST then 0x31 else 0x32) ∷ []
 
+-- `SPT1`
 abbrev pub rows_magic : List ℕ
 rows_magic = 0x53 ∷ 0x50 ∷ 0x54 ∷ 0x31 ∷ []
 
@@ -47,7 +50,7 @@ abbrev pub spelled_row : Row → List ℕ
 spelled_row row = to_be_bytes w64 row.key ++ (kind_code row.kind ∷ spelled_data row.old)
 
 unfoldable pub spelled_bits : BitsRecord → List ℕ
-spelled_bits r = bits_magic ++ (to_be_bytes w32 r.router.number ++ (to_be_bytes w32 r.page.number ++ (r.k ∷ r.bits.n ∷ 0 ∷ 0 ∷ (to_be_bytes w64 r.seed ++ (to_be_bytes w64 r.opened ++ (to_be_bytes w64 r.closed ++ flat_map (to_be_bytes w64) (words_of r.bits)))))))
+spelled_bits r = bits_magic r.bits.n ++ (to_be_bytes w32 r.router.number ++ (to_be_bytes w32 r.page.number ++ (r.k ∷ r.bits.n ∷ 0 ∷ 0 ∷ (to_be_bytes w64 r.seed ++ (to_be_bytes w64 r.opened ++ (to_be_bytes w64 r.closed ++ flat_map (to_be_bytes w64) (words_of r.bits)))))))
 
 unfoldable pub spelled_rows : RowsRecord → List ℕ
 spelled_rows r = rows_magic ++ (to_be_bytes w32 r.router.number ++ (to_be_bytes w32 r.page.number ++ (to_be_bytes w32 (length r.rows) ++ flat_map spelled_row r.rows)))
@@ -62,8 +65,8 @@ pub record AreBits (r : BitsRecord) : Type 0 where
   pub router : r.router.number < 64
   pub some : 1 ≤ r.k
   pub most : r.k ≤ 8
-  pub low : 6 ≤ r.bits.n
-  pub high : r.bits.n ≤ 16
+  pub low : N_LEAST ≤ r.bits.n
+  pub high : r.bits.n ≤ N_MOST
   pub opened : r.opened < 2 ^ 48
   pub after : r.opened ≤ r.closed
   pub closed : r.closed < 2 ^ 48

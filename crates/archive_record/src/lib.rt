@@ -15,5 +15,5 @@ mod writing;
 
 pub use laws::{has_one_spelling, reads_again, spells_one};
 pub use reading::decode;
-pub use records::{BitsHead, BitsRecord, DecodeRefused, Record, RowsRecord};
+pub use records::{BitsHead, BitsRecord, DecodeRefused, Record, RowsRecord, SPB1_N_MOST};
 pub use writing::{encode, encode_bits, encode_rows};

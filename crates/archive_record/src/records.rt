@@ -6,6 +6,9 @@ use bloom_page::Page;
 use packet_signature::Row;
 use spie_base::{List, PageNo, RouterId};
 
+/// The greatest number of bits of a position in a record with the magic `SPB1`. Records of larger pages have `SPB2`.
+pub const SPB1_N_MOST: u8 = 16;
+
 /// What a bits record says of its page besides the bits.
 #[derive(Clone, Copy, PartialEq, Eq, Debug)]
 pub struct BitsHead {
@@ -22,7 +25,7 @@ pub struct BitsHead {
     pub closed: u64,
 }
 
-/// The bits of a closed page, with the fields of a `BitsHead`. A position has 6 to 16 bits.
+/// The bits of a closed page, with the fields of a `BitsHead`. A position has `N_LEAST` to `N_MOST` bits.
 #[derive(Drop)]
 pub struct BitsRecord {
     pub router: RouterId,

@@ -1,9 +1,9 @@
 ghost use Rattle.std.specs.Prelude.{◌≡◌, ◌≤◌, ◌++◌, ◌^◌, ◌-◌, length, ℕ, IfOk, OnOk};
 ghost use Rattle.std.specs.List.{flat_map};
 ghost use Rattle.std.specs.Int.{w64, to_be_bytes};
-ghost use Rattle.archive_record.specs.Spelling.{Fits, AreBits, AreRows, bits_record, rows_record, spelled, spelled_bits, spelled_rows, spelled_row, spelled_data};
+ghost use Rattle.archive_record.specs.Spelling.{Fits, AreBits, bits_magic, AreRows, bits_record, rows_record, spelled, spelled_bits, spelled_rows, spelled_row, spelled_data};
 
-use crate::{BitsHead, Record};
+use crate::{BitsHead, Record, SPB1_N_MOST};
 use bloom_page::Page;
 use packet_signature::{Kind, Row, RowData};
 use spie_base::{NoMemory, PageNo, RouterId};
@@ -71,6 +71,13 @@ pub fn encode_rows(
     Ok(out)
 }
 
+// The magic of a bits record, by the bits of a position.
+fn magic_of(n: u8) -> &'static [u8]
+    ensures { result.now ≡ bits_magic n }
+{
+    if n <= SPB1_N_MOST { b"SPB1" } else { b"SPB2" }
+}
+
 /// The one spelling of a bits record, of a page that is borrowed. Costs its length.
 #[tactic(auto, unfolding(crate::specs::Spelling::spelled_bits))]
 pub fn encode_bits(alloc: Global, head: &BitsHead, bits: &Page) -> Result<Vec<u8>, NoMemory>
@@ -79,7 +86,7 @@ pub fn encode_bits(alloc: Global, head: &BitsHead, bits: &Page) -> Result<Vec<u8
 {
     let mut out = Vec::new(alloc);
     out.reserve(40 + 8 * bits.words().len())?;
-    out.extend_from_slice(b"SPB1")?;
+    out.extend_from_slice(magic_of(bits.n()))?;
     out.extend_from_slice(&head.router.number.to_be_bytes())?;
     out.extend_from_slice(&head.page.number.to_be_bytes())?;
     out.extend_from_slice(&[head.k, bits.n(), 0, 0])?;

@@ -7,7 +7,7 @@ use Rattle.spie_base.specs.declared.Rules.{Rules}
 use Rattle.bloom_page.specs.Sets.{is_in}
 use Rattle.bloom_page.proofs.Members.{is_in-from_Contains}
 use Rattle.page_catalogue.specs.Pages.{is_due, open_page}
-use Rattle.page_shelf.specs.Shelves.{Contents}
+use Rattle.page_shelf.specs.Shelves.{ChangesOnly, Contents}
 use Rattle.page_shelf.specs.declared.ShelfPart.{ShelfPart}
 use Rattle.page_shelf.specs.declared.ShelfPart.TheVariants.{Bits, Rows}
 use Rattle.router_account.specs.Account.{Account, fill, with_closing}
@@ -20,10 +20,10 @@ use Rattle.data_agent.specs.declared.archival.Note.{Note}
 use Rattle.data_agent.specs.declared.outcome.Archived.{Archived}
 use Rattle.data_agent.specs.declared.outcome.Barrier.{Barrier}
 use Rattle.data_agent.specs.declared.outcome.Closed.{Closed}
-use Rattle.data_agent.specs.Calls.{IsPassed, number_of, split_by, marks_of}
+use Rattle.data_agent.specs.Calls.{IsPassed, IsPassedName, number_of, split_by, marks_of}
 use Rattle.data_agent.specs.Expiring.{IsExpiredBy, expired_with}
 use Rattle.data_agent.specs.Finishing.{IsFinished, finished_at}
-use Rattle.data_agent.specs.Passing.{IsTicked, StandsForSame, ticked_at}
+use Rattle.data_agent.specs.Passing.{HasClosedOne, IsTicked, StandsForSame, ticked_at}
 use Rattle.data_agent.specs.Standing.{HasNotes, Stands, StandsWhole}
 use Rattle.data_agent.proofs.Alike.{stands_like}
 use Rattle.data_agent.proofs.Kept.{bits_text_kept, for_of}
@@ -58,18 +58,19 @@ holds_ticked agent rules l clock false contents s h = record { put = h.put; gone
 
 -- ---- what a tick leaves as it is
 
-record IsKeptBy (a b : Account) : Type 0 where
+record IsKeptBy (clock : ℕ) (a b : Account) : Type 0 where
   router : b.router ≡ a.router
   entries : b.entries ≡ a.entries
   rows : b.rows ≡ a.rows
+  closings : HasClosedOne clock a.closings b.closings
 
-kept_due : (a : Account) (clock : ℕ) (due : Bool) → IsKeptBy a (cond due (with_closing a clock) a)
-kept_due a clock true = record { router = refl; entries = refl; rows = refl }
-kept_due a clock false = record { router = refl; entries = refl; rows = refl }
+kept_due : (a : Account) (clock : ℕ) (due : Bool) → IsKeptBy clock a (cond due (with_closing a clock) a)
+kept_due a clock true = record { router = refl; entries = refl; rows = refl; closings = inr (clock, omega arith, refl) }
+kept_due a clock false = record { router = refl; entries = refl; rows = refl; closings = inl refl }
 
-kept_tick : (rules : Rules) (l : Ledger) (clock : ℕ) (tick : Bool) → IsKeptBy l.account (ticked_at rules l clock tick).account
+kept_tick : (rules : Rules) (l : Ledger) (clock : ℕ) (tick : Bool) → IsKeptBy clock l.account (ticked_at rules l clock tick).account
 kept_tick rules l clock true = kept_due l.account clock (is_due rules l.account.closings clock (fill rules l.account (open_page l.account.closings)))
-kept_tick rules l clock false = record { router = refl; entries = refl; rows = refl }
+kept_tick rules l clock false = record { router = refl; entries = refl; rows = refl; closings = inl refl }
 
 closing_same : (rules : Rules) (l : Ledger) (split : Split) (clock : ℕ) (tick : Bool) → closing_at rules (finished_at l split) clock tick ≡ closing_at rules l clock tick
 closing_same rules l split clock true = refl
@@ -134,20 +135,30 @@ others old after new middle rules l u clock tick archived closed left x y z p st
     let split = split_by archived in
     p.expired.others (still ∙ t) name (λ e. apart (e ∙ (kept_tick rules (finished_at l split) clock tick).router)) ∙ p.finished.others t name apart
 
+-- only names of pages of the segment's archival and of pages that expire are changed
+pub untouched : (old after new middle : Agent) (rules : Rules) (l : Ledger) (u : Unfinished) (clock : ℕ) (tick : Bool) (archived : Option Archived) (closed : Option Closed) (left : List PageNo) (x y z : ShelfView) → Parts old after new rules l u clock tick archived closed left middle x y z → y.tells ≡ x.tells
+    → x.tells ≡ true → ChangesOnly (IsPassedName rules l (behind_barrier rules l clock tick (split_by archived) (map number_of left)) (split_by archived)) x.contents z.contents
+untouched old after new middle rules l u clock tick archived closed left x y z p still t name apart =
+    let split = split_by archived in
+    p.expired.untouched (still ∙ t) name (λ is. apart (record {
+      router = is.router ∙ (kept_tick rules (finished_at l split) clock tick).router;
+      page = inr (record { covered = is.page.covered; first = is.page.first; expired = is.page.expired });
+    }))
+    ∙ p.finished.untouched t name (λ is. apart (record { router = is.router_is; page = inl is.page }))
+
 -- ---- after want of memory
 
-pub recorded_finished : (agent : Agent) (rules : Rules) (l : Ledger) (split : Split) → StandsWhole agent rules (finished_at l split) nothing_unfinished → StandsForSame agent rules l
-recorded_finished agent rules l split s = (finished_at l split, nothing_unfinished, for_of agent rules (finished_at l split) nothing_unfinished s, refl, refl, refl)
-
 pub recorded_expired : (after new : Agent) (rules : Rules) (l : Ledger) (split : Split) (clock : ℕ) (tick : Bool) → StandsWhole after rules (ticked_at rules (finished_at l split) clock tick) nothing_unfinished
-    → Stands new rules (expired_with (ticked_at rules (finished_at l split) clock tick) clock []) → new.noted ≡ after.noted → StandsForSame new rules l
+    → Stands new rules (expired_with (ticked_at rules (finished_at l split) clock tick) clock []) → new.noted ≡ after.noted → StandsForSame new rules l clock
 recorded_expired after new rules l split clock tick s stands noted =
     let before : Ledger = ticked_at rules (finished_at l split) clock tick in
-    let kept = kept_tick rules (finished_at l split) clock tick in (
-      expired_with before clock [],
-      nothing_unfinished,
-      for_of new rules (expired_with before clock []) nothing_unfinished (record { stands = stands; noted = subst (HasNotes rules (expired_with before clock []) nothing_unfinished None) (sym noted) (none_noted rules before (expired_with before clock []) after.noted s.noted) }),
-      kept.router,
-      kept.entries,
-      kept.rows,
-    )
+    let kept = kept_tick rules (finished_at l split) clock tick in
+    record {
+      after = expired_with before clock [];
+      unfinished = nothing_unfinished;
+      stands = for_of new rules (expired_with before clock []) nothing_unfinished (record { stands = stands; noted = subst (HasNotes rules (expired_with before clock []) nothing_unfinished None) (sym noted) (none_noted rules before (expired_with before clock []) after.noted s.noted) });
+      router = kept.router;
+      entries = kept.entries;
+      rows = kept.rows;
+      closings = kept.closings;
+    }

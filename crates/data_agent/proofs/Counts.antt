@@ -5,6 +5,7 @@ use Rattle.std.proofs.Math.Nat.{pow-le-pow_right}
 use Rattle.std.proofs.lemmas.Bool.{cases_eq, eq-eqb, ne_eqb}
 use Rattle.std.proofs.lemmas.List.FromFn.{length-range_with_len}
 use Rattle.spie_base.specs.Shapes.{shape_of}
+use Rattle.spie_base.specs.declared.types.TheConstants.{N_MOST}
 use Rattle.spie_base.specs.declared.Rules.{Rules}
 use Rattle.spie_base.specs.declared.Sig.{Sig}
 use Rattle.hash_family.specs.Entries.{is_marked}
@@ -68,12 +69,12 @@ filter_short p [] = omega arith
 filter_short p (x ∷ xs) = short_step (p x) x (filter p xs) xs (filter_short p xs)
 
 -- a page has no more bits than positions
-pub fill_most : (rules : Rules) (a : Account) (page : ℕ) → rules.n ≤ 16 → fill rules a page ≤ 2 ^ 16
+pub fill_most : (rules : Rules) (a : Account) (page : ℕ) → rules.n ≤ N_MOST → fill rules a page ≤ 2 ^ N_MOST
 unfolding set_of
 fill_most rules a page few =
     let short : fill rules a page ≤ length (range_with_len 0 (2 ^ rules.n)) = filter_short (is_marked (shape_of rules a.router) a.entries page) (range_with_len 0 (2 ^ rules.n)) in
     let all : length (range_with_len 0 (2 ^ rules.n)) ≡ 2 ^ rules.n = length-range_with_len 0 (2 ^ rules.n) in
-    let grows : 2 ^ rules.n ≤ 2 ^ 16 = pow-le-pow_right (lit< tt) few in
+    let grows : 2 ^ rules.n ≤ 2 ^ N_MOST = pow-le-pow_right (lit< tt) few in
     omega arith
 
 united_few : (n : ℕ) (test : ℕ → Bool) (ms : List ℕ) → length (united (set_of n test) ms).members ≤ length (set_of n test).members + length ms

@@ -9,6 +9,8 @@ use Rattle.spie_base.proofs.Membership.{from_map, into_map, from_filter, into_fi
 use Rattle.spie_base.specs.declared.Rules.{Rules}
 use Rattle.bloom_page.specs.Sets.{is_in}
 use Rattle.bloom_page.proofs.Members.{is_in-from_Contains}
+use Rattle.page_shelf.specs.Shelves.{ChangesOnly}
+use Rattle.page_shelf.specs.declared.ShelfName.{ShelfName}
 use Rattle.page_shelf.specs.declared.ShelfPart.TheVariants.{Bits}
 use Rattle.page_catalogue.specs.Catalogues.{AreExpired}
 use Rattle.router_account.specs.Account.{Account, bits}
@@ -19,7 +21,7 @@ use Rattle.router_account.specs.Shelves.{ShelfView}
 use Rattle.data_agent.specs.declared.agent.Agent.{Agent}
 use Rattle.data_agent.specs.declared.archival.Note.{Note}
 use Rattle.data_agent.specs.Archiving.{IsDigest, KnowsPages, NotesTo, held_bits, held_text}
-use Rattle.data_agent.specs.Calls.{IsNoted, with_more}
+use Rattle.data_agent.specs.Calls.{IsNoted, IsNotedName, with_more}
 use Rattle.data_agent.specs.Standing.{IsBitsDigest, Stands, StandsWhole, digest_of, is_refused, is_stored, noted_page, put_page}
 use Rattle.data_agent.proofs.Alike.{not_noted, stands_like}
 use Rattle.data_agent.proofs.Kept.{held_true, knows_whole}
@@ -139,6 +141,15 @@ noted_closed agent rules l notes x z noted e y has =
     let at : put.note.page.number ≡ y.page = ap (λ p. p.page) put.is in
     omega arith
 
+-- no other name is changed
+pub only_noted : (agent : Agent) (rules : Rules) (l : Ledger) (notes : List Note) (x z : ShelfView) → AreExpired rules l.closings_then l.clock_then agent.catalogue.gone → agent.page.number ≡ length l.account.closings
+    → NotesTo agent rules l agent.catalogue.gone agent.page.number notes x z → x.tells ≡ true → ChangesOnly (IsNotedName rules l) x.contents z.contents
+only_noted agent rules l notes x z expired end noted t name apart = noted.others t name (λ page has e. apart (record {
+  router = ap (λ (n : ShelfName). n.router.number) e;
+  part = ap (λ (n : ShelfName). n.part) e;
+  covered = subst (IsCovered rules (archive_view l l.account.closings)) (sym (ap (λ (n : ShelfName). n.page.number) e)) ((covered_is agent rules l page expired end).0 ((noted.covers page).0 has));
+}))
+
 pub archived : (agent : Agent) (notes : Vec Note Global) (x z : ShelfView) → agent.noted ≡ None → ((rules : Rules) (l : Ledger) → KnowsPages agent rules l → NotesTo agent rules l agent.catalogue.gone agent.page.number notes.items x z)
     → IsNoted (StandsWhole agent) (StandsWhole (record agent { noted = Some notes })) (more_of (held_bits agent) notes.items) x.tells x.contents z.contents
 archived agent notes x z none all =
@@ -152,4 +163,5 @@ archived agent notes x z none all =
       holds = λ rules l u s t h. holds_still agent rules l notes.items x z s.stands.expired (noted rules l s.stands) t h;
       holds_bits = λ rules l u s t h. holds_noted agent rules l notes.items x z (noted rules l s.stands) t;
       others = λ rules l u s t name apart. (noted rules l s.stands).others t name (λ page has e. apart (ap (λ n. n.router.number) e));
+      untouched = λ rules l u s t. only_noted agent rules l notes.items x z s.stands.expired s.stands.pages.page (noted rules l s.stands) t;
     }

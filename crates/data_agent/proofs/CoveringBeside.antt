@@ -21,7 +21,7 @@ use Rattle.data_agent.specs.Calls.{IsNotedBeside, with_more}
 use Rattle.data_agent.specs.Standing.{digest_of, noted_page, standing}
 use Rattle.data_agent.proofs.Besides.{reads_then}
 use Rattle.data_agent.proofs.Planes.{rest_then}
-use Rattle.data_agent.proofs.Covering.{bits_then, covered_is, holds_noted, holds_still, more_of, noted_closed, put_of, put_then}
+use Rattle.data_agent.proofs.Covering.{bits_then, covered_is, holds_noted, holds_still, more_of, noted_closed, only_noted, put_of, put_then}
 
 -- ---- what the agent knows
 
@@ -147,6 +147,7 @@ archived_beside agent notes x z none all away =
       holds = λ rules l u s t h. holds_still agent rules l notes.items x z s.expired (noted rules l u s) t h;
       holds_bits = λ rules l u s t h. holds_noted agent rules l notes.items x z (noted rules l u s) t;
       others = λ rules l u s t name apart. (noted rules l u s).others t name (λ page has e. apart (ap (λ n. n.router.number) e));
+      untouched = λ rules l u s t. only_noted agent rules l notes.items x z s.expired s.pages.page (noted rules l u s) t;
     }
 
 -- ---- what stays while pages are collected
@@ -171,4 +172,5 @@ noted_before old middle new away some tells before after stays is = record {
   holds = λ rules l u s. is.holds rules l u (stays.beside rules l u away s);
   holds_bits = λ rules l u s. is.holds_bits rules l u (stays.beside rules l u away s);
   others = λ rules l u s. is.others rules l u (stays.beside rules l u away s);
+  untouched = λ rules l u s. is.untouched rules l u (stays.beside rules l u away s);
 }

@@ -1,14 +1,14 @@
 -- Bits records that an archival deferred are put.
-use Rattle.std.proofs.Common.{ℕ, ◌≡◌, ◌≤◌, ◌<◌, ◌+◌, ◌-◌, ◌∷◌, [], ◌++◌, ◌∙◌, List, length, map, filter, Bool, true, false, Option, Some, None, Vec, Global, sym, ap, subst, refl, inl, inr, arith}
+use Rattle.std.proofs.Common.{ℕ, ◌≡◌, ◌≤◌, ◌<◌, ◌+◌, ◌-◌, ◌∷◌, [], ◌++◌, ◌∙◌, List, length, map, filter, Bool, true, false, Option, Some, None, Vec, Global, sym, ap, subst, refl, inl, inr, ⊎_elim, arith}
 use Rattle.std.specs.List.{Contains}
 use Rattle.std.proofs.lemmas.Bool.{false≢true, cases_eq}
 use Rattle.std.proofs.lemmas.List.{map-append}
-use Rattle.std.proofs.lemmas.List.Elements.{Contains-append_left, Contains-push, Contains-push_cases}
+use Rattle.std.proofs.lemmas.List.Elements.{Contains-append_left, Contains-append_right, Contains-push, Contains-push_cases}
 use Rattle.spie_base.proofs.Membership.{from_map, has_none}
 use Rattle.spie_base.specs.declared.Rules.{Rules}
 use Rattle.page_shelf.specs.declared.ShelfPart.TheVariants.{Bits}
 use Rattle.router_account.specs.Account.{Account, bits}
-use Rattle.router_account.specs.Barriers.{AreRising}
+use Rattle.router_account.specs.Barriers.{AreRising, IsCovered, IsSplit, IsSplitOf, IsSplitWhere, archive_view}
 use Rattle.router_account.specs.Ledger.{Ledger, PutBits, Unfinished, was_expired}
 use Rattle.router_account.specs.Records.{ArePageBits, Holds, HoldsBits, bits_text, name_of, true_text}
 use Rattle.router_account.specs.Shelves.{ShelfView}
@@ -162,9 +162,19 @@ stood rules l u closings notes x n held true_bits note has done =
     let at = from_map put_page u.bits_put note.page.number ((n.each note has).put done) in
     subst (HasBits rules l.account x.contents) at.is (held at.of at.has ∙ ap (λ ms. Some (bits_text rules l.account at.of.page ms)) (true_bits at.of at.has))
 
-pub finished_deferred : (agent : Agent) (rules : Rules) (l : Ledger) (u : Unfinished) (closings : List ℕ) (notes news : List Note) (archived : Option Archived) (x y z : ShelfView) → AreNotes rules l u closings notes
+-- a page that the segment's archival covers is in its split
+in_split_at : (rules : Rules) (l : Ledger) (closings : List ℕ) (split : Split) (page : ℕ) (at : Option (List ℕ)) → at ≡ Some closings → IsSplitWhere rules l at split → IsCovered rules (archive_view l closings) page → Contains (split.put ++ split.kept) page
+in_split_at rules l closings split page None e is covered = absurd (let f : None ≡ Some closings = e in cc)
+in_split_at rules l closings split page (Some other) e is covered =
+    let here : IsSplit rules (archive_view l closings) split = subst (λ (o : Option (List ℕ)). IsSplitWhere rules l o split) e is in
+    ⊎_elim (λ put. Contains-append_left split.put split.kept page put) (λ kept. Contains-append_right split.put split.kept page kept) ((here.all page).1 covered)
+
+pub in_split : (rules : Rules) (l : Ledger) (closings : List ℕ) (split : Split) (page : ℕ) → l.closed_at_archive ≡ Some closings → IsSplitOf rules l split → IsCovered rules (archive_view l closings) page → Contains (split.put ++ split.kept) page
+in_split rules l closings split page at is covered = in_split_at rules l closings split page l.closed_at_archive at is covered
+
+pub finished_deferred : (agent : Agent) (rules : Rules) (l : Ledger) (u : Unfinished) (closings : List ℕ) (notes news : List Note) (archived : Option Archived) (x y z : ShelfView) → l.closed_at_archive ≡ Some closings → AreNotes rules l u closings notes
     → PutsAllDeferred rules l.account notes news x y → IsFinished rules l (more_of (bits rules l.account) news) archived agent y z → IsFinished rules l u archived agent x z
-finished_deferred agent rules l u closings notes news archived x y z n s f =
+finished_deferred agent rules l u closings notes news archived x y z at n s f =
     let tells : x.tells ≡ true → y.tells ≡ true = λ t. s.still ∙ t in
     record {
       told = f.told;
@@ -180,6 +190,10 @@ finished_deferred agent rules l u closings notes news archived x y z n s f =
           (s.stand t (stood rules l u closings notes x n held true_bits) put.note put.has put.done))
           (λ b has. let put = put_of (bits rules l.account) news b has in subst (λ (p : PutBits). p.bits ≡ bits rules l.account p.page) put.is refl);
       others = λ t name apart. f.others (tells t) name apart ∙ s.others t name (λ page has e. apart (ap (λ n. n.router.number) e));
+      untouched = λ t name apart. f.untouched (tells t) name apart ∙ s.others t name (λ page has e. apart (record {
+        router_is = ap (λ n. n.router.number) e;
+        page = subst (Contains ((split_by archived).put ++ (split_by archived).kept)) (sym (ap (λ n. n.page.number) e)) (in_split rules l closings (split_by archived) page at f.split ((n.covers page).0 has));
+      }));
     }
 
 pub noted_deferred : (rules : Rules) (l : Ledger) (u : Unfinished) (at : Option (List ℕ)) (notes news : Vec Note Global) (x y : ShelfView) → HasNotes rules l u at (Some notes) → PutsAllDeferred rules l.account notes.items news.items x y
@@ -192,5 +206,5 @@ pub finished_behind : (old new : Agent) (rules : Rules) (l : Ledger) (u : Unfini
     → archived.put ≡ pages_put settled → archived.kept ≡ pages_kept settled → IsFinished rules l u (Some archived) new x z
 finished_behind old new rules l u None notes news settled archived x y z s at h d f stands none put kept = absurd h
 finished_behind old new rules l u (Some closings) notes news settled archived x y z s at h d f stands none put kept =
-    finished_deferred new rules l u closings notes.items news.items (Some archived) x y z h d
+    finished_deferred new rules l u closings notes.items news.items (Some archived) x y z at h d
     (finished_some old new rules l (more_of (bits rules l.account) news.items) (Some closings) news settled archived y z s at (deferred_notes rules l u closings notes.items news.items x y h d) f stands none put kept)

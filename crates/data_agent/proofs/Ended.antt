@@ -5,7 +5,7 @@ use Rattle.std.specs.List.Sorted.{IsStrictlySortedBy}
 use Rattle.std.specs.Ordering.{nat_cmp}
 use Rattle.std.proofs.lemmas.Bool.{false≢true, ltb-true, ltb-false}
 use Rattle.std.proofs.lemmas.List.{length-map}
-use Rattle.std.proofs.lemmas.List.Elements.{Contains-append_cases}
+use Rattle.std.proofs.lemmas.List.Elements.{Contains-append_cases, Contains-append_left, Contains-append_right}
 use Rattle.spie_base.proofs.Membership.{has_none, has_cases, from_map, into_map, from_filter, into_filter}
 use Rattle.spie_base.specs.Causes.{RoseBy}
 use Rattle.spie_base.specs.declared.Rules.{Rules}
@@ -216,6 +216,12 @@ finished_split old new rules l u closings notes settled archived x z s at n f st
           (subst (λ n. RoseBy n x.faults z.faults) (let k = kept_count settled in let r = n.refused in let few = f.few in let goal : length (filter was_kept settled) - length (filter is_refused notes) ≡ length (numbers_kept settled) - u.refused = omega arith in goal) f.rose);
       holds = λ t h held true_bits. subst (λ (sp : Split). Holds rules z.contents (finished_at l sp)) same (finished_holds old rules l u closings notes settled x z s n f t h held true_bits);
       others = λ t name apart. f.others t name (λ page has e. apart (ap (λ n. n.router.number) e));
+      untouched = λ t name apart. f.others t name (λ page has e. apart (record {
+        router_is = ap (λ n. n.router.number) e;
+        page = subst (λ (sp : Split). Contains (sp.put ++ sp.kept) name.page.number) same (subst (Contains (numbers_put settled ++ numbers_kept settled)) (sym (ap (λ n. n.page.number) e))
+            (⊎_elim (λ put. Contains-append_left (numbers_put settled) (numbers_kept settled) page put) (λ kept. Contains-append_right (numbers_put settled) (numbers_kept settled) page kept)
+            (((split_is rules l u closings notes settled n f.pages).all page).1 ((n.covers page).0 has))));
+      }));
     }
 
 pub finished_some : (old new : Agent) (rules : Rules) (l : Ledger) (u : Unfinished) (at : Option (List ℕ)) (notes : Vec Note Global) (settled : List Settled) (archived : Archived) (x z : ShelfView) → Stands old rules l → l.closed_at_archive ≡ at → HasNotes rules l u at (Some notes)
@@ -237,6 +243,7 @@ finished_none agent rules l u x s none =
       rose = subst (λ n. RoseBy n x.faults x.faults) (let e : 0 ≡ 0 - u.refused = omega arith in e) (rose_none x.faults x.faults (omega arith));
       holds = λ t h held true_bits. record { put = h.put; gone = h.gone };
       others = λ t name apart. refl;
+      untouched = λ t name apart. refl;
     }
 
 -- ---- what the calls need

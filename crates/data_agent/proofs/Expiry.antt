@@ -21,7 +21,7 @@ use Rattle.packet_signature.specs.declared.Row.{Row}
 use Rattle.transform_table.specs.Tables.{rows_of_page}
 use Rattle.data_agent.specs.declared.agent.Agent.{Agent}
 use Rattle.data_agent.specs.declared.closed_page.ClosedPage.{ClosedPage}
-use Rattle.data_agent.specs.Calls.{number_of}
+use Rattle.data_agent.specs.Calls.{IsExpiring, number_of}
 use Rattle.data_agent.specs.Expiring.{DiscardsOne, Discards, IsExpiredBy, covers_at, is_covered_in, expired_with}
 use Rattle.page_gate.specs.Held.{Held}
 use Rattle.spie_base.specs.Shapes.{shape_of}
@@ -65,9 +65,9 @@ discards_more router first covers page left false x y z le s one = record {
   rose = rose_same (length (map number_of left)) x.faults y.faults z.faults s.rose one.rose;
   away = λ t p from to covered apart part. elim (cases_eq p page.number) [
     | inl here ↦ subst (λ n. z.contents (name_of router n part) ≡ None) (sym here) (one.away (s.still ∙ t) (subst (λ n. covers n ≡ true) here covered) refl part)
-    | inr other ↦ one.others (s.still ∙ t) (name_of router p part) (λ q e. other (same_page router router p page.number part q e)) ∙ s.away t p from (omega arith) covered apart part
+    | inr other ↦ one.others (s.still ∙ t) (name_of router p part) (λ c q e. other (same_page router router p page.number part q e)) ∙ s.away t p from (omega arith) covered apart part
   ];
-  others = λ t name apart. one.others (s.still ∙ t) name (λ part e. apart page.number part le (omega arith) e) ∙ s.others t name (λ p part from to e. apart p part from (omega arith) e);
+  others = λ t name apart. one.others (s.still ∙ t) name (λ c part e. apart page.number part le (omega arith) c e) ∙ s.others t name (λ p part from to c e. apart p part from (omega arith) c e);
 }
 discards_more router first covers page left true x y z le s one =
     let pages : map number_of (left ++ page ∷ []) ≡ map number_of left ++ page.number ∷ [] = map-append number_of left (page ∷ []) in
@@ -84,9 +84,9 @@ discards_more router first covers page left true x y z le s one =
       rose = subst (λ n. RoseBy n x.faults z.faults) (sym (ap length pages ∙ length_push (map number_of left) page.number)) (rose_then (length (map number_of left)) 1 x.faults y.faults z.faults s.rose one.rose);
       away = λ t p from to covered apart part. elim (cases_eq p page.number) [
         | inl here ↦ absurd (apart (subst (λ n. Contains (map number_of (left ++ page ∷ [])) n) (sym here) (subst (λ ps. Contains ps page.number) (sym pages) (Contains-push (map number_of left) page.number))))
-        | inr other ↦ one.others (s.still ∙ t) (name_of router p part) (λ q e. other (same_page router router p page.number part q e)) ∙ s.away t p from (omega arith) covered (λ has. apart (into p has)) part
+        | inr other ↦ one.others (s.still ∙ t) (name_of router p part) (λ c q e. other (same_page router router p page.number part q e)) ∙ s.away t p from (omega arith) covered (λ has. apart (into p has)) part
       ];
-      others = λ t name apart. one.others (s.still ∙ t) name (λ part e. apart page.number part le (omega arith) e) ∙ s.others t name (λ p part from to e. apart p part from (omega arith) e);
+      others = λ t name apart. one.others (s.still ∙ t) name (λ c part e. apart page.number part le (omega arith) c e) ∙ s.others t name (λ p part from to c e. apart p part from (omega arith) c e);
     }
 
 -- ---- what an agent stands for then
@@ -185,18 +185,26 @@ expired_by agent rules l clock gone left x z s exact grown within d =
       holds = λ t h. record {
         put = λ page part put live.
             let near : gone ≤ page = ltb-false page gone (exact page ∙ live) in
-            d.others t (name_of l.account.router page part) (λ p q from to e. let same : page ≡ p = same_page l.account.router l.account.router page p part q e in omega arith)
+            d.others t (name_of l.account.router page part) (λ p q from to c e. let same : page ≡ p = same_page l.account.router l.account.router page p part q e in omega arith)
             ∙ h.put page part put (page_live agent rules l s.expired page (omega arith));
         gone = λ page part is covered apart.
             let old : page < gone = ltb-true page gone (exact page ∙ is) in
             elim (cases_lt page agent.catalogue.gone) [
               | inl before ↦
-                  d.others t (name_of l.account.router page part) (λ p q from to e. let same : page ≡ p = same_page l.account.router l.account.router page p part q e in omega arith)
+                  d.others t (name_of l.account.router page part) (λ p q from to c e. let same : page ≡ p = same_page l.account.router l.account.router page p part q e in omega arith)
                   ∙ h.gone page part (page_gone agent rules l s.expired page before) covered (λ has. apart (Contains-append_right (map number_of left) l.left_before page has))
               | inr now ↦ d.away t page now old (covers_is agent rules l page s now (omega arith) ∙ is_in-from_Contains l.covered_before page covered) (λ has. apart (Contains-append_left (map number_of left) l.left_before page has)) part
             ];
       };
-      others = λ t name apart. d.others t name (λ p q from to e. apart (ap (λ n. n.router.number) e));
+      others = λ t name apart. d.others t name (λ p q from to c e. apart (ap (λ n. n.router.number) e));
+      untouched = λ t name apart. d.others t name (λ p q from to c e. apart (record {
+        router = ap (λ n. n.router.number) e;
+        page = subst (IsExpiring rules l after) (sym (ap (λ n. n.page.number) e)) (record {
+          covered = Contains-from_is_in l.covered_before p (sym (covers_is agent rules l p s from (omega arith)) ∙ c);
+          first = page_live agent rules l s.expired p from;
+          expired = sym (exact p) ∙ lt-ltb p gone to;
+        });
+      }));
     }
 
 -- no page expires

@@ -2,6 +2,7 @@
 use Rattle.std.proofs.Common.{ℕ, zero, suc, ◌≡◌, ◌≤◌, ◌<◌, ◌+◌, ◌*◌, ◌/◌, ◌%◌, ◌^◌, ◌∙◌, Bool, true, Option, Some, None, List, length, get_or, sym, ap, refl, subst, arith, lit<}
 use Rattle.std.proofs.lemmas.List.{get_or_default}
 use Rattle.spie_base.specs.Shapes.{shape_of}
+use Rattle.spie_base.specs.declared.types.TheConstants.{N_LEAST, N_MOST}
 use Rattle.spie_base.specs.declared.Rules.{Rules}
 use Rattle.std.specs.Int.Bits.{bit_xor}
 use Rattle.std.proofs.lemmas.Nat.{mod_below, xor_lt}
@@ -99,8 +100,8 @@ noted_fits agent rules l page head bits k lt here size =
       router = k.router_fits;
       some = k.ranges.k_least;
       most = k.ranges.k_most;
-      low = subst (λ n. 6 ≤ n) (sym size) k.ranges.n_least;
-      high = subst (λ n. n ≤ 16) (sym size) k.ranges.n_most;
+      low = subst (λ n. N_LEAST ≤ n) (sym size) k.ranges.n_least;
+      high = subst (λ n. n ≤ N_MOST) (sym size) k.ranges.n_most;
       opened = opened_fits l.account.closings page k.ascend within;
       after = opened_before l.account.closings page k.ascend within;
       closed = closed_fits l.account.closings page k.ascend within;

@@ -8,6 +8,7 @@ use Rattle.std.proofs.lemmas.List.Elements.{Contains-append_cases, Contains-appe
 use Rattle.sha2.specs.Sha256.{sha256}
 use Rattle.spie_base.proofs.Membership.{from_flat_map, into_map}
 use Rattle.spie_base.specs.Shapes.{shape_of}
+use Rattle.spie_base.specs.declared.types.TheConstants.{N_MOST}
 use Rattle.spie_base.specs.declared.Entry.{Entry}
 use Rattle.spie_base.specs.declared.PageShape.{PageShape}
 use Rattle.spie_base.specs.declared.Rules.{Rules}
@@ -142,7 +143,7 @@ module _ (old : Agent) (k : Held) (ps : List PassHeld) (rules : Rules) (l : Ledg
 
   filled_then : (marked : ℕ) → (marked ≡ 2 ^ 32 - 1) ⊎ ((marked ≡ old.marked) × All (λ (p : PassHeld). AreBelow old.page.number p.entries) ps) → fill rules b last ≤ marked
   filled_then marked = ⊎_elim
-      (λ most. let few : fill rules b last ≤ 2 ^ 16 = fill_most rules b last s.pages.ranges.n_most in omega arith)
+      (λ most. let few : fill rules b last ≤ 2 ^ N_MOST = fill_most rules b last s.pages.ranges.n_most in omega arith)
       (λ (same, below).
       let low : AreBelow last more = subst (λ (n : ℕ). AreBelow n more) s.pages.page (below_each old.page.number ps below) in
       let fill_same : fill rules b last ≡ fill rules l.account last = ap (λ (set : PageSet). length set.members) (set_open low) in

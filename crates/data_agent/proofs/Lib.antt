@@ -18,6 +18,7 @@ pub mod Keeping
 pub mod Kept
 pub mod LastEntries
 pub mod Looks
+pub mod LooksMore
 pub mod Members
 pub mod Minding
 pub mod Noting

@@ -12,7 +12,8 @@ use Rattle.spie_base.specs.declared.PageNo.{PageNo}
 use Rattle.spie_base.specs.declared.Rules.{Rules}
 use Rattle.router_account.specs.declared.words.Cause.{Cause}
 use Rattle.router_account.specs.declared.words.Cause.TheVariants.{Failed, Other, Absent, Broken}
-use Rattle.router_account.specs.Account.{Account, Held}
+use Rattle.used_pages.specs.UsedPages.{Held}
+use Rattle.router_account.specs.Account.{Account}
 use Rattle.router_account.specs.Ledger.{Ledger}
 use Rattle.router_account.specs.Records.{AreTold, IsCause, name_of}
 use Rattle.router_account.specs.Shelves.{ShelfView}
@@ -24,8 +25,8 @@ use Rattle.data_agent.specs.declared.looking.Look.{Look}
 use Rattle.data_agent.specs.declared.looking.Looked.{Looked}
 use Rattle.data_agent.specs.declared.looking.Looked.TheVariants.{Borrowed, ReadBack, Unread}
 use Rattle.data_agent.specs.declared.looking.ReadPage.{ReadPage}
-use Rattle.data_agent.specs.Looking.{AreLooks, IsKnown, IsLook, IsLooked, LooksTo, got_in, is_unread, look_page, reading_of, unread_in, unread_of, unread_where, used_of}
-use Rattle.data_agent.proofs.Puts.{rose_then, rose_none}
+use Rattle.data_agent.specs.Looking.{AreLooks, IsKnown, IsLook, IsLooked, got_in, is_unread, look_page, reading_of, unread_in, unread_of, unread_where, used_of}
+use Rattle.data_agent.proofs.Puts.{rose_none}
 use Rattle.data_agent.proofs.Rising.{less_is}
 
 -- ---- one page more
@@ -39,12 +40,12 @@ only_failed rules a page y z Broken is told = absurd (is.1 told)
 told_later : (rules : Rules) (a : Account) (page : ℕ) (x y : ShelfView) → Gets x y → AreTold rules a page x → AreTold rules a page y
 told_later rules a page x y gets told = (gets.still ∙ told.0, λ part. gets.same told.0 (name_of a.router page part) ∙ told.1 part)
 
-known_of : (rules : Rules) (l : Ledger) (page : ℕ) (x y z : ShelfView) (looked : Looked) → Gets x y → IsLooked rules l page y z looked → IsKnown rules l page x looked
+pub known_of : (rules : Rules) (l : Ledger) (page : ℕ) (x y z : ShelfView) (looked : Looked) → Gets x y → IsLooked rules l page y z looked → IsKnown rules l page x looked
 known_of rules l page x y z (Borrowed r) gets is = is
 known_of rules l page x y z (ReadBack p) gets is = (is.0, is.1.0, λ told. is.1.1 (told_later rules l.account page x y gets told))
 known_of rules l page x y z (Unread cause) gets is = (is.0, λ told. only_failed rules l.account page y z cause is.1 (told_later rules l.account page x y gets told))
 
-abbrev failed_in : Looked → Bool
+abbrev pub failed_in : Looked → Bool
 failed_in (Borrowed r) = false
 failed_in (ReadBack p) = false
 failed_in (Unread cause) = is_failed cause
@@ -57,7 +58,7 @@ failures_one page (Unread (Other kept found)) = refl
 failures_one page (Unread Absent) = refl
 failures_one page (Unread Broken) = refl
 
-failures_more : (looks : List Look) (look : Look) → failures (reading_of (looks ++ look ∷ [])) ≡ failures (reading_of looks) + count_if (failed_in look.looked)
+pub failures_more : (looks : List Look) (look : Look) → failures (reading_of (looks ++ look ∷ [])) ≡ failures (reading_of looks) + count_if (failed_in look.looked)
 failures_more looks look =
     let h : Look → Option UnreadPage = λ k. unread_in k.page.number k.looked in
     ap (λ xs. length (filter (λ x. is_failed x.cause) xs)) (filter_map-append h looks (look ∷ []))
@@ -65,7 +66,7 @@ failures_more looks look =
     ∙ length-append (filter (λ (x : UnreadPage). is_failed x.cause) (filter_map h looks)) (filter (λ (x : UnreadPage). is_failed x.cause) (filter_map h (look ∷ [])))
     ∙ ap (λ n. failures (reading_of looks) + n) (failures_one look.page look.looked)
 
-rose_one : (rules : Rules) (l : Ledger) (page : ℕ) (y z : ShelfView) (looked : Looked) → IsLooked rules l page y z looked → y.faults ≤ z.faults → RoseBy (count_if (failed_in looked)) y.faults z.faults
+pub rose_one : (rules : Rules) (l : Ledger) (page : ℕ) (y z : ShelfView) (looked : Looked) → IsLooked rules l page y z looked → y.faults ≤ z.faults → RoseBy (count_if (failed_in looked)) y.faults z.faults
 rose_one rules l page y z (Borrowed r) is le = rose_none y.faults z.faults le
 rose_one rules l page y z (ReadBack p) is le = rose_none y.faults z.faults le
 rose_one rules l page y z (Unread Failed) is le = is.1
@@ -73,23 +74,9 @@ rose_one rules l page y z (Unread (Other kept found)) is le = rose_none y.faults
 rose_one rules l page y z (Unread Absent) is le = rose_none y.faults z.faults le
 rose_one rules l page y z (Unread Broken) is le = rose_none y.faults z.faults le
 
-looks_push : (rules : Rules) (l : Ledger) (x : ShelfView) (first page : ℕ) (looks : List Look) (look : Look) → first + length looks ≡ page → AreLooks rules l x first looks → IsLook rules l page x look → AreLooks rules l x first (looks ++ look ∷ [])
+pub looks_push : (rules : Rules) (l : Ledger) (x : ShelfView) (first page : ℕ) (looks : List Look) (look : Look) → first + length looks ≡ page → AreLooks rules l x first looks → IsLook rules l page x look → AreLooks rules l x first (looks ++ look ∷ [])
 looks_push rules l x first page [] look at all is = (subst (λ n. IsLook rules l n x look) (let e : page ≡ first = omega arith in e) is, tt)
 looks_push rules l x first page (k ∷ looks) look at all is = (all.0, looks_push rules l x (first + 1) page looks look (omega arith) all.1 is)
-
-pub looks_none : (rules : Rules) (l : Ledger) (first : ℕ) (x : ShelfView) → LooksTo rules l first 0 [] x x
-looks_none rules l first x = record { count_is = refl; each = tt; rose = rose_none x.faults x.faults (omega arith) }
-
-pub looks_more : (rules : Rules) (l : Ledger) (first page : ℕ) (looks : List Look) (looked : Looked) (x y z : ShelfView) → first ≤ page → LooksTo rules l first (page - first) looks x y → Gets x y → Gets y z → IsLooked rules l page y z looked
-    → LooksTo rules l first (page + 1 - first) (looks ++ (let k : Look = record { page = record { number = page }; looked = looked } in k) ∷ []) x z
-looks_more rules l first page looks looked x y z le s before gets is =
-    let look : Look = record { page = record { number = page }; looked = looked } in
-    let count = s.count_is in
-    record {
-      count_is = let len : length (looks ++ look ∷ []) ≡ length looks + 1 = length-append looks (look ∷ []) in omega arith;
-      each = looks_push rules l x first page looks look (omega arith) s.each (record { page_is = refl; known = known_of rules l page x y z looked before is });
-      rose = subst (λ n. RoseBy n x.faults z.faults) (sym (failures_more looks look)) (rose_then (failures (reading_of looks)) (count_if (failed_in looked)) x.faults y.faults z.faults s.rose (rose_one rules l page y z looked is gets.later));
-    }
 
 -- ---- a page among them
 
@@ -195,7 +182,7 @@ pub record IsFetched (looks : List Look) (y : GotPage) : Type 0 where
   pub at : look.page.number ≡ y.page
   pub page : ReadPage
   pub is : look.looked ≡ ReadBack page
-  pub held_is : (let h : Held = record { bits = page.resident.page.members; rows = page.rows } in h) ≡ y.held
+  pub held_is : (let h : Held = record { bits = page.resident.page.members; rows = page.read.value } in h) ≡ y.held
 
 lost_first : (page : PageNo) (looked : Looked) (looks : List Look) (y : UnreadPage) → (Contains (reading_of looks).unread y → IsLost looks y) → Contains (reading_of ((let k : Look = record { page = page; looked = looked } in k) ∷ looks)).unread y
     → IsLost ((let k : Look = record { page = page; looked = looked } in k) ∷ looks) y
@@ -218,7 +205,7 @@ fetched_first page (Borrowed r) looks y later has = let i = later has in record 
 fetched_first page (Unread cause) looks y later has = let i = later has in record { look = i.look; has = has_later _ looks i.look i.has; at = i.at; page = i.page; is = i.is; held_is = i.held_is }
 fetched_first page (ReadBack p) looks y later has =
     let look : Look = record { page = page; looked = ReadBack p } in
-    elim (has_cases (let g : GotPage = record { page = page.number; held = record { bits = p.resident.page.members; rows = p.rows } } in g) (reading_of looks).got y has) [
+    elim (has_cases (let g : GotPage = record { page = page.number; held = record { bits = p.resident.page.members; rows = p.read.value } } in g) (reading_of looks).got y has) [
       | inl here ↦ record { look = look; has = has_first look looks; at = ap (λ g. g.page) here; page = p; is = refl; held_is = ap (λ g. g.held) here }
       | inr more ↦ let i = later more in record { look = i.look; has = has_later look looks i.look i.has; at = i.at; page = i.page; is = i.is; held_is = i.held_is }
     ]
@@ -245,8 +232,8 @@ into_filter_map h (k ∷ xs) x y has e = elim (has_cases k xs x has) [
 pub into_lost : (looks : List Look) (look : Look) (cause : Cause) → Contains looks look → look.looked ≡ Unread cause → Contains (reading_of looks).unread (record { page = look.page.number; cause = cause })
 into_lost looks look cause has is = into_filter_map (λ k. unread_in k.page.number k.looked) looks look (record { page = look.page.number; cause = cause }) has (ap (unread_in look.page.number) is)
 
-pub into_got : (looks : List Look) (look : Look) (p : ReadPage) → Contains looks look → look.looked ≡ ReadBack p → Contains (reading_of looks).got (record { page = look.page.number; held = record { bits = p.resident.page.members; rows = p.rows } })
-into_got looks look p has is = into_filter_map (λ k. got_in k.page.number k.looked) looks look (record { page = look.page.number; held = record { bits = p.resident.page.members; rows = p.rows } }) has (ap (got_in look.page.number) is)
+pub into_got : (looks : List Look) (look : Look) (p : ReadPage) → Contains looks look → look.looked ≡ ReadBack p → Contains (reading_of looks).got (record { page = look.page.number; held = record { bits = p.resident.page.members; rows = p.read.value } })
+into_got looks look p has is = into_filter_map (λ k. got_in k.page.number k.looked) looks look (record { page = look.page.number; held = record { bits = p.resident.page.members; rows = p.read.value } }) has (ap (got_in look.page.number) is)
 
 -- ---- they rise
 

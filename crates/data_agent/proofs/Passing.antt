@@ -125,6 +125,6 @@ none_rise cmp = tt
 
 -- ---- after want of memory
 
-pub recorded_same : (old new : Agent) → ((rules : Rules) (l : Ledger) (u : Unfinished) → StandsFor old rules l u → StandsFor new rules l u)
-    → (rules : Rules) (l : Ledger) (u : Unfinished) → StandsFor old rules l u → StandsForSame new rules l
-recorded_same old new same rules l u s = (l, u, same rules l u s, refl, refl, refl)
+pub recorded_same : (old new : Agent) (clock : ℕ) → ((rules : Rules) (l : Ledger) (u : Unfinished) → StandsFor old rules l u → StandsFor new rules l u)
+    → (rules : Rules) (l : Ledger) (u : Unfinished) → StandsFor old rules l u → StandsForSame new rules l clock
+recorded_same old new clock same rules l u s = record { after = l; unfinished = u; stands = same rules l u s; router = refl; entries = refl; rows = refl; closings = inl refl }

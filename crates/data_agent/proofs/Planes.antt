@@ -1,6 +1,6 @@
 -- An agent and its plane.
 use Rattle.std.proofs.lemmas.Bool.{false≢true}
-use Rattle.std.proofs.Common.{is_some, true, ℕ, ◌≡◌, ◌≤◌, ◌<◌, ◌+◌, ◌∙◌, List, length, Bool, false, not, ◌&&◌, Option, Some, None, sym, ap, subst, refl, arith}
+use Rattle.std.proofs.Common.{is_some, true, ℕ, ◌≡◌, ◌≤◌, ◌<◌, ◌+◌, ◌∙◌, List, length, Bool, false, not, ◌&&◌, Option, Some, None, sym, ap, subst, refl, inl, inr, arith}
 use Rattle.spie_base.specs.Shapes.{shape_of}
 use Rattle.spie_base.specs.declared.Entry.{Entry}
 use Rattle.spie_base.specs.declared.PageShape.{PageShape}
@@ -195,19 +195,27 @@ still_then a b c x y rules l u s = y rules l u (x rules l u s)
 pub may_turn_whole : (agent : Agent) (clock : ℕ) → MayTurn (StandsWhole agent) clock → MayTurn (StandsFor agent) clock
 may_turn_whole agent clock (rules, l, u, s, late, room) = (rules, l, u, for_of agent rules l u s, late, room)
 
-pub recorded_whole : (old new : Agent) → StillWhole old new → (rules : Rules) (l : Ledger) (u : Unfinished) → StandsWhole old rules l u → StandsForSame new rules l
-recorded_whole old new same rules l u s = (l, u, for_of new rules l u (same rules l u s), refl, refl, refl)
+pub recorded_whole : (old new : Agent) (clock : ℕ) → StillWhole old new → (rules : Rules) (l : Ledger) (u : Unfinished) → StandsWhole old rules l u → StandsForSame new rules l clock
+recorded_whole old new clock same rules l u s = record { after = l; unfinished = u; stands = for_of new rules l u (same rules l u s); router = refl; entries = refl; rows = refl; closings = inl refl }
 
-pub recorded_for : (old new : Agent) → StillStands old new → (rules : Rules) (l : Ledger) (u : Unfinished) → StandsWhole old rules l u → StandsForSame new rules l
-recorded_for old new same rules l u s = (l, u, same rules l u (for_of old rules l u s), refl, refl, refl)
+pub recorded_for : (old new : Agent) (clock : ℕ) → StillStands old new → (rules : Rules) (l : Ledger) (u : Unfinished) → StandsWhole old rules l u → StandsForSame new rules l clock
+recorded_for old new clock same rules l u s = record { after = l; unfinished = u; stands = same rules l u (for_of old rules l u s); router = refl; entries = refl; rows = refl; closings = inl refl }
 
 pub recorded_turned : (old after new : Agent) (clock : ℕ) → ((rules : Rules) (l : Ledger) (u : Unfinished) → StandsFor old rules l u → StandsFor after rules (turned_at l clock) u) → StillStands after new
-    → (rules : Rules) (l : Ledger) (u : Unfinished) → StandsWhole old rules l u → StandsForSame new rules l
-recorded_turned old after new clock turned same rules l u s = (turned_at l clock, u, same rules (turned_at l clock) u (turned rules l u (for_of old rules l u s)), refl, refl, refl)
+    → (rules : Rules) (l : Ledger) (u : Unfinished) → StandsWhole old rules l u → StandsForSame new rules l clock
+recorded_turned old after new clock turned same rules l u s = record {
+  after = turned_at l clock;
+  unfinished = u;
+  stands = same rules (turned_at l clock) u (turned rules l u (for_of old rules l u s));
+  router = refl;
+  entries = refl;
+  rows = refl;
+  closings = inr (clock, omega arith, refl);
+}
 
-pub recorded_before : (old after new : Agent) → StillWhole old after → ((rules : Rules) (l : Ledger) (u : Unfinished) → StandsWhole after rules l u → StandsForSame new rules l)
-    → (rules : Rules) (l : Ledger) (u : Unfinished) → StandsWhole old rules l u → StandsForSame new rules l
-recorded_before old after new same recorded rules l u s = recorded rules l u (same rules l u s)
+pub recorded_before : (old after new : Agent) (clock : ℕ) → StillWhole old after → ((rules : Rules) (l : Ledger) (u : Unfinished) → StandsWhole after rules l u → StandsForSame new rules l clock)
+    → (rules : Rules) (l : Ledger) (u : Unfinished) → StandsWhole old rules l u → StandsForSame new rules l clock
+recorded_before old after new clock same recorded rules l u s = recorded rules l u (same rules l u s)
 
 pub noted_amid : (before before_amid after after_amid : Meaning) (more : Unfinished) (tells : Bool) (old new : Contents) → ((rules : Rules) (l : Ledger) (u : Unfinished) → before_amid rules l u → before rules l u)
     → ((rules : Rules) (l : Ledger) (u : Unfinished) → after rules l u → after_amid rules l u) → IsNoted before after more tells old new → IsNoted before_amid after_amid more tells old new
@@ -218,6 +226,7 @@ noted_amid before before_amid after after_amid more tells old new whole amid n =
   holds = λ rules l u s. n.holds rules l u (whole rules l u s);
   holds_bits = λ rules l u s. n.holds_bits rules l u (whole rules l u s);
   others = λ rules l u s. n.others rules l u (whole rules l u s);
+  untouched = λ rules l u s. n.untouched rules l u (whole rules l u s);
 }
 
 -- ---- the bits of the open page are counted

@@ -26,7 +26,7 @@ put_still name text y z (Some d) h = h.1
 put_still name text y z None h = h.0
 
 pub put_rose : (name : ShelfName) (text : List ℕ) (y z : ShelfView) (digest : Option (List ℕ)) → IsPut name text y z digest → RoseBy (count_if (not (is_some digest))) y.faults z.faults
-put_rose name text y z (Some d) h = rose_none y.faults z.faults h.2
+put_rose name text y z (Some d) h = let same : z.faults ≡ y.faults = h.2 in rose_none y.faults z.faults (omega arith)
 put_rose name text y z None h = h.1
 
 pub put_here : (name : ShelfName) (text : List ℕ) (y z : ShelfView) (digest : Option (List ℕ)) → IsPut name text y z digest → y.tells ≡ true → is_some digest ≡ true → z.contents name ≡ Some text

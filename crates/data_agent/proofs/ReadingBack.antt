@@ -1,15 +1,17 @@
 -- A page that was read back.
-use Rattle.std.proofs.Common.{ℕ, ◌≡◌, ◌≤◌, ◌<◌, ◌+◌, ◌-◌, ◌∙◌, true, get_or, length, sym, ap, subst, arith}
+use Rattle.std.proofs.Common.{ℕ, ◌≡◌, ◌≤◌, ◌<◌, ◌+◌, ◌-◌, ◌∙◌, ◌↔◌, true, get_or, length, sym, ap, subst, arith}
+use Rattle.std.specs.List.{Contains}
 use Rattle.sha2.specs.Sha256.{sha256}
 use Rattle.spie_base.specs.Shapes.{shape_of}
 use Rattle.spie_base.specs.declared.Rules.{Rules}
 use Rattle.hash_family.specs.Positions.{family_of}
-use Rattle.archive_record.specs.Spelling.{AreBits, ArePlainBits}
+use Rattle.archive_record.specs.Spelling.{AreBits, ArePlainBits, AreRows, ArePlainRows}
 use Rattle.archive_record.specs.declared.BitsHead.{BitsHead}
 use Rattle.page_shelf.specs.declared.ShelfPart.TheVariants.{Bits, Rows}
-use Rattle.router_account.specs.Account.{Account, Held, bits}
+use Rattle.used_pages.specs.UsedPages.{Held}
+use Rattle.router_account.specs.Account.{Account, bits}
 use Rattle.router_account.specs.Ledger.{Ledger}
-use Rattle.router_account.specs.Records.{AreTold, bits_of, bits_text, head_of, true_text}
+use Rattle.router_account.specs.Records.{AreTold, bits_of, bits_text, head_of, rows_of, rows_text, true_text}
 use Rattle.router_account.specs.Shelves.{ShelfView}
 use Rattle.shelved_page.specs.declared.reading.Back.{Back}
 use Rattle.shelved_page.specs.declared.reading.Content.{Content}
@@ -17,7 +19,7 @@ use Rattle.shelved_page.specs.declared.shelving.Digests.{Digests}
 use Rattle.shelved_page.specs.Reading.{IsBack, IsGot, IsTrue, IsTrueBits, IsTrueRows}
 use Rattle.data_agent.specs.declared.agent.Agent.{Agent}
 use Rattle.data_agent.specs.declared.looking.ReadPage.{ReadPage}
-use Rattle.data_agent.specs.declared.resident.Resident.{Resident}
+use Rattle.packet_signature.specs.declared.Row.{Row}
 use Rattle.data_agent.specs.Looking.{IsLooked, IsReadBack, IsReadPage, IsTruePage}
 use Rattle.bloom_page.specs.Sets.{is_in}
 use Rattle.data_agent.specs.declared.closed_page.ClosedPage.{ClosedPage}
@@ -40,28 +42,35 @@ back_is agent rules l page head d x z got s from to here ds promises =
     let end : page < length l.account.closings = let e = s.pages.page in omega arith in
     promises rules l.account page here (ap (λ (r : Rules). r.n) s.pages.rules_are) (true_bits_fit agent rules l.account page s.pages end) (true_rows_fit agent rules l page s from end) ds.bits ds.rows
 
-pub got_is : (agent : Agent) (rules : Rules) (l : Ledger) (page : ℕ) (c : Content) (resident : Resident) (x : ShelfView) → Stands agent rules l → IsRead agent.rules agent.router.number page c.bits resident
+-- what was kept of contents that were read back
+pub record Keeps (c : Content) (p : ReadPage) : Type 0 where
+  pub read : p.read.value ≡ c.rows
+  pub same : (row : Row) → Contains p.rows row ↔ Contains c.rows row
+
+pub got_is : (agent : Agent) (rules : Rules) (l : Ledger) (page : ℕ) (c : Content) (p : ReadPage) (x : ShelfView) → Stands agent rules l → IsRead agent.rules agent.router.number page c.bits p.resident → Keeps c p
     → IsGot rules l.account page c × (AreTold rules l.account page x → IsTrue rules l.account page c)
-    → (let p : ReadPage = record { resident = resident; rows = c.rows } in IsReadPage rules l.account page p × (AreTold rules l.account page x → IsTruePage rules l.account page p))
-got_is agent rules l page c resident x s read got =
+    → IsReadPage rules l.account page p × (AreTold rules l.account page x → IsTruePage rules l.account page p)
+got_is agent rules l page c p x s is keeps got =
     let a = l.account in
-    let members : c.bits.members ≡ resident.page.members = ap (λ p. p.members) (sym read.bits_are) in
+    let members : c.bits.members ≡ p.resident.page.members = ap (λ b. b.members) (sym is.bits_are) in
+    let rows : c.rows ≡ p.read.value = sym keeps.read in
     let b = got.0.bits in
     let r = got.0.rows in (
       record {
-        family = read.family ∙ ap (λ (ru : Rules). family_of (shape_of ru agent.router.number) page) s.pages.rules_are ∙ ap (λ n. family_of (shape_of rules n) page) s.pages.router;
+        family = is.family ∙ ap (λ (ru : Rules). family_of (shape_of ru agent.router.number) page) s.pages.rules_are ∙ ap (λ n. family_of (shape_of rules n) page) s.pages.router;
+        same = λ row. subst (λ rs. Contains p.rows row ↔ Contains rs row) rows (keeps.same row);
         digests = record {
           bits_fit = subst (λ ms. AreBits (bits_of rules a page ms)) members b.fits;
           bits_plain = subst (λ ms. ArePlainBits (bits_of rules a page ms)) members b.plain;
           bits_same = subst (λ ms. sha256 (bits_text rules a page ms) ≡ sha256 (true_text rules a page Bits)) members b.same;
-          rows_fit = r.fits;
-          rows_plain = r.plain;
-          rows_same = r.same;
+          rows_fit = subst (λ rs. AreRows (rows_of a page rs)) rows r.fits;
+          rows_plain = subst (λ rs. ArePlainRows (rows_of a page rs)) rows r.plain;
+          rows_same = subst (λ rs. sha256 (rows_text a page rs) ≡ sha256 (true_text rules a page Rows)) rows r.same;
         };
       },
       λ told.
           let t = got.1 told in
-          ap (λ ms. let h : Held = record { bits = ms; rows = c.rows } in h) (sym members ∙ t.bits) ∙ ap (λ rs. let h : Held = record { bits = bits rules a page; rows = rs } in h) t.rows,
+          ap (λ ms. let h : Held = record { bits = ms; rows = p.read.value } in h) (sym members ∙ t.bits) ∙ ap (λ rs. let h : Held = record { bits = bits rules a page; rows = rs } in h) (keeps.read ∙ t.rows),
     )
 
 -- ---- where a page is that was put

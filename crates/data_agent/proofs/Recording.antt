@@ -35,7 +35,7 @@ use Rattle.data_agent.proofs.Staying.{pages_same}
 marked_more : (rules : Rules) (a : Account) (page : ℕ) (sig : Sig) (before after : ℕ) → rules.n ≤ N_MOST → fill rules a page ≤ before → after ≡ min (before + rules.k) (2 ^ 32 - 1) → fill rules (with_entry a page sig) page ≤ after
 marked_more rules a page sig before after few le at =
     let more : fill rules (with_entry a page sig) page ≤ fill rules a page + rules.k = fill_more rules a page sig in
-    let most : fill rules (with_entry a page sig) page ≤ 2 ^ 16 = fill_most rules (with_entry a page sig) page few in
+    let most : fill rules (with_entry a page sig) page ≤ 2 ^ N_MOST = fill_most rules (with_entry a page sig) page few in
     omega arith
 
 keeps_record : (rules : Rules) (a : Account) (sig : Sig) → Keeps rules a (with_entry a (length a.closings) sig)

@@ -15,7 +15,8 @@ use Rattle.hash_family.specs.Positions.{positions_by}
 use Rattle.hash_family.proofs.PositionFacts.{marks_of-family}
 use Rattle.page_catalogue.specs.Pages.{is_in_window}
 use Rattle.router_account.specs.declared.words.Cause.{Cause}
-use Rattle.router_account.specs.Account.{Account, Held, below, held, hit, holds_sig, marks, window}
+use Rattle.used_pages.specs.UsedPages.{Held, holds_sig}
+use Rattle.router_account.specs.Account.{Account, below, held, hit, marks, window}
 use Rattle.router_account.specs.Ledger.{Ledger, Unfinished, was_expired}
 use Rattle.router_account.specs.Shelves.{ShelfView}
 use Rattle.router_account.specs.Sights.{GotPage, UnreadPage, Reading, got_or, is_missing, is_unread as is_unread_in, page_by, used_by, expired_by, sight_by, last_of, range_of}
@@ -84,7 +85,7 @@ got_some (x ∷ more) page own h y has at each = elim (cases_eq x.page page) [
 -- what is held of a page that was seen
 abbrev pub held_in : Looked → Held → Held
 held_in (Borrowed r) own = own
-held_in (ReadBack p) own = record { bits = p.resident.page.members; rows = p.rows }
+held_in (ReadBack p) own = record { bits = p.resident.page.members; rows = p.read.value }
 held_in (Unread cause) own = own
 
 abbrev pub looked_read : Looked → Bool
@@ -94,7 +95,7 @@ looked_read (Unread cause) = false
 
 abbrev pub held_of_read : Held → Looked → Held
 held_of_read own (Borrowed r) = own
-held_of_read own (ReadBack p) = record { bits = p.resident.page.members; rows = p.rows }
+held_of_read own (ReadBack p) = record { bits = p.resident.page.members; rows = p.read.value }
 held_of_read own (Unread cause) = own
 
 not_read : (looked : Looked) (own : Held) (none : looked_read looked ≡ false) (p : ReadPage) → looked ≡ ReadBack p → ⊥
@@ -109,7 +110,7 @@ held_is agent rules l time first last from x looks look own (Unread c) s has e =
     let i = fetched_is looks y in_it in
     not_read (Unread c) own refl i.page (sym e ∙ ap (λ k. k.looked) (sym (look_same rules l x from looks i.look look s.all i.has has (i.at ∙ at))) ∙ i.is))
 held_is agent rules l time first last from x looks look own (ReadBack p) s has e =
-    let h : Held = record { bits = p.resident.page.members; rows = p.rows } in
+    let h : Held = record { bits = p.resident.page.members; rows = p.read.value } in
     got_some (reading_of looks).got look.page.number own h (record { page = look.page.number; held = h }) (into_got looks look p has e) refl (λ y in_it at.
     let i = fetched_is looks y in_it in
     let same : ReadBack i.page ≡ ReadBack p = sym i.is ∙ ap (λ k. k.looked) (look_same rules l x from looks i.look look s.all i.has has (i.at ∙ at)) ∙ e in
@@ -231,7 +232,7 @@ used_is agent rules l time first last from x looks look s has =
 -- ---- what is hit
 
 shows_is : (agent : Agent) (rules : Rules) (l : Ledger) (time first last from : ℕ) (x : ShelfView) (looks : List Look) (look : Look) (sig : Sig) (w : Looked) → Saw agent rules l time first last from x looks → Contains looks look → look.looked ≡ w → IsKnown rules l look.page.number x w
-    → (not (looked_unread w) && holds_sig rules l.account.router sig (page_by rules l (reading_of looks) look.page.number)) ≡ looked_shows w sig
+    → (not (looked_unread w) && holds_sig (shape_of rules l.account.router) sig (page_by rules l (reading_of looks) look.page.number)) ≡ looked_shows w sig
 shows_is agent rules l time first last from x looks look sig (Borrowed r) s has e known =
     ap (λ (h : Held). are_in h.bits (marks rules l.account.router look.page.number sig)) (held_is agent rules l time first last from x looks look (held rules l.account look.page.number) (Borrowed r) s has e)
     ∙ sym (same_shows rules l.account look.page.number r.now sig known.1)
@@ -245,8 +246,8 @@ pub hit_is : (agent : Agent) (rules : Rules) (l : Ledger) (time first last from 
     → list_any (λ look. look_shows look sig) looks ≡ hit rules (sight_by rules l (window rules l.account time) (reading_of looks)) sig
 hit_is agent rules l time first last from x looks sig s =
     let reading = reading_of looks in
-    sym (any_map (holds_sig rules l.account.router sig) (page_by rules l reading) (used_by rules l (window rules l.account time) reading)
-    ∙ ap (list_any (λ page. holds_sig rules l.account.router sig (page_by rules l reading page))) (used_numbers agent rules l time first last from x looks s)
-    ∙ any_looks rules l x from looks (is_used rules l reading) (λ page. holds_sig rules l.account.router sig (page_by rules l reading page)) (λ look. look_shows look sig) s.all (λ look has.
-    ap (λ b. b && holds_sig rules l.account.router sig (page_by rules l reading look.page.number)) (used_is agent rules l time first last from x looks look s has)
+    sym (any_map (holds_sig (shape_of rules l.account.router) sig) (page_by rules l reading) (used_by rules l (window rules l.account time) reading)
+    ∙ ap (list_any (λ page. holds_sig (shape_of rules l.account.router) sig (page_by rules l reading page))) (used_numbers agent rules l time first last from x looks s)
+    ∙ any_looks rules l x from looks (is_used rules l reading) (λ page. holds_sig (shape_of rules l.account.router) sig (page_by rules l reading page)) (λ look. look_shows look sig) s.all (λ look has.
+    ap (λ b. b && holds_sig (shape_of rules l.account.router) sig (page_by rules l reading look.page.number)) (used_is agent rules l time first last from x looks look s has)
     ∙ shows_is agent rules l time first last from x looks look sig look.looked s has refl (seen_page agent rules l time first last from x looks look s has).known))

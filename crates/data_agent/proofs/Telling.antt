@@ -1,10 +1,12 @@
 -- What a query is told of the pages that it sees.
-use Rattle.std.proofs.Common.{◌↔◌, ◌⊎◌, ⊎_elim, Vec, Global, ℕ, ◌≡◌, ◌≤◌, ◌-◌, ◌∙◌, ◌∷◌, [], ◌++◌, List, length, map, cond, min, Bor, Bool, true, false, not, ◌||◌, ◌==◌, Option, Some, None, is_some, sym, ap, subst, refl, inl, inr, arith}
+use Rattle.std.proofs.Common.{◌↔◌, ◌⊎◌, ⊎_elim, Vec, Global, ℕ, ◌≡◌, ◌≤◌, ◌+◌, ◌-◌, ◌∙◌, ◌∷◌, [], ◌++◌, List, length, map, cond, min, Bor, Bool, true, false, not, ◌||◌, ◌==◌, Option, Some, None, is_some, sym, ap, subst, refl, inl, inr, arith}
 use Rattle.std.specs.List.{Contains, list_any, flat_map}
 use Rattle.std.proofs.lemmas.Bool.{cases_lt, le-leb, lt-leb, false≢true, ltb-false}
 use Rattle.spie_base.proofs.Booleans.{or_true}
 use Rattle.spie_base.proofs.Bounds.{some_items}
 use Rattle.spie_base.proofs.Membership.{has_first}
+use Rattle.spie_base.specs.Ascending.{in_order}
+use Rattle.spie_base.specs.Order.{sig_cmp}
 use Rattle.spie_base.specs.declared.PageNo.{PageNo}
 use Rattle.spie_base.specs.declared.PageRange.{PageRange}
 use Rattle.spie_base.specs.declared.Rules.{Rules}
@@ -13,8 +15,10 @@ use Rattle.bloom_page.proofs.Members.{Contains-from_is_in, is_in-from_Contains}
 use Rattle.packet_signature.specs.declared.Row.{Row}
 use Rattle.packet_signature.specs.Row.{key_of}
 use Rattle.router_account.specs.declared.Unreadable.{Unreadable}
-use Rattle.router_account.specs.Account.{Held, held, origins, window}
+use Rattle.used_pages.specs.UsedPages.{Held}
+use Rattle.router_account.specs.Account.{held, origins, window}
 use Rattle.router_account.specs.Ledger.{Ledger, was_expired}
+use Rattle.router_account.specs.Readings.{IsReadFrom}
 use Rattle.router_account.specs.Records.{AllFailed, AreTold, AreTrue, HasDigests, Holds}
 use Rattle.router_account.specs.Shelves.{ShelfView}
 use Rattle.router_account.specs.Sights.{GotPage, UnreadPage, IsRead, IsShelved, is_missing, is_unread as is_unread_in, sight_by, page_no, range_of, unreadable_of}
@@ -26,8 +30,8 @@ use Rattle.data_agent.specs.declared.looking.Looked.TheVariants.{Borrowed, ReadB
 use Rattle.data_agent.specs.declared.looking.ReadPage.{ReadPage}
 use Rattle.data_agent.specs.declared.sight.Sight.{Sight}
 use Rattle.data_agent.specs.Calls.{IsSeen}
-use Rattle.data_agent.specs.Looking.{IsKnown, is_unread, looked_unread, reading_of, undone_by, unread_of, used_of}
-use Rattle.data_agent.specs.Seeing.{shown_by, told_by, expired_in, undone_in, in_order}
+use Rattle.data_agent.specs.Looking.{IsKnown, LooksTo, is_unread, looked_unread, reading_of, undone_by, unread_of, used_of}
+use Rattle.data_agent.specs.Seeing.{shown_by, told_by, expired_in, undone_in}
 use Rattle.data_agent.proofs.Looks.{fetched_is, got_rising, into_got, look_at, lost_is, unread_rising, unread_told, used_looks}
 use Rattle.data_agent.proofs.Watching.{any_has, none_has}
 use Rattle.data_agent.proofs.Windows.{page_gone, page_live}
@@ -87,7 +91,7 @@ shelved_is agent rules l time first last from x looks look s has h =
 got_where : (agent : Agent) (rules : Rules) (l : Ledger) (time first last from : ℕ) (x : ShelfView) (looks : List Look) (look : Look) (w : Looked) → Saw agent rules l time first last from x looks → Contains looks look → look.looked ≡ w → IsKnown rules l look.page.number x w
     → is_in l.put_before look.page.number ≡ true → looked_unread w ≡ false → (y : GotPage) × Contains (reading_of looks).got y × (y.page ≡ look.page.number)
 got_where agent rules l time first last from x looks look (Borrowed r) s has e known put read = absurd (false≢true (sym known.0 ∙ put))
-got_where agent rules l time first last from x looks look (ReadBack p) s has e known put read = (record { page = look.page.number; held = record { bits = p.resident.page.members; rows = p.rows } }, into_got looks look p has e, refl)
+got_where agent rules l time first last from x looks look (ReadBack p) s has e known put read = (record { page = look.page.number; held = record { bits = p.resident.page.members; rows = p.read.value } }, into_got looks look p has e, refl)
 got_where agent rules l time first last from x looks look (Unread c) s has e known put read = absurd (false≢true (sym read))
 
 read_is : (agent : Agent) (rules : Rules) (l : Ledger) (time first last from : ℕ) (x : ShelfView) (looks : List Look) → Saw agent rules l time first last from x looks → IsRead rules l (window rules l.account time) (reading_of looks)
@@ -121,10 +125,10 @@ read_is agent rules l time first last from x looks s = record {
 }
 
 fetched_digests : (rules : Rules) (l : Ledger) (x : ShelfView) (look : Look) (p : ReadPage) (y : GotPage) → IsKnown rules l look.page.number x look.looked → look.looked ≡ ReadBack p → look.page.number ≡ y.page
-    → (let h : Held = record { bits = p.resident.page.members; rows = p.rows } in h) ≡ y.held → HasDigests rules l.account y × (AreTold rules l.account y.page x → y.held ≡ held rules l.account y.page)
+    → (let h : Held = record { bits = p.resident.page.members; rows = p.read.value } in h) ≡ y.held → HasDigests rules l.account y × (AreTold rules l.account y.page x → y.held ≡ held rules l.account y.page)
 fetched_digests rules l x look p y known is at same =
     let k : IsKnown rules l look.page.number x (ReadBack p) = subst (IsKnown rules l look.page.number x) is known in
-    let h : Held = record { bits = p.resident.page.members; rows = p.rows } in
+    let h : Held = record { bits = p.resident.page.members; rows = p.read.value } in
     let whole : (let q : GotPage = record { page = look.page.number; held = h } in q) ≡ y = ap (λ n. let q : GotPage = record { page = n; held = h } in q) at ∙ ap (λ g. let q : GotPage = record { page = y.page; held = g } in q) same in
     (subst (HasDigests rules l.account) whole k.1.digests, λ told. sym same ∙ k.2 (subst (λ n. AreTold rules l.account n x) (sym at) told) ∙ ap (held rules l.account) at)
 
@@ -142,7 +146,7 @@ seen agent rules l time first last from x looks rows expired unreadable used s t
           let i = fetched_is looks.items y has in
           (fetched_digests rules l x i.look i.page y (seen_page agent rules l time first last from x looks.items i.look s i.has).known i.is i.at i.held_is).0;
       hit = λ sig. hit_is agent rules l time first last from x looks.items sig s;
-      origins = λ sig old. subst (λ t. Contains (in_order (sig ∷ (undone_in from last sig (with_key (key_of sig) t) ++ flat_map (undone_by sig) looks.items))) old ↔ Contains (origins (sight_by rules l ps reading) sig) old) (sym table)
+      origins = λ sig old. subst (λ t. Contains (in_order sig_cmp (sig ∷ (undone_in from last sig (with_key (key_of sig) t) ++ flat_map (undone_by sig) looks.items))) old ↔ Contains (origins (sight_by rules l ps reading) sig) old) (sym table)
           (origins_are agent rules l time first last from x looks.items sig old s);
       missing = ap (λ o. is_some o || not (length unreadable == 0)) gone ∙ ap (λ us. is_some (expired_in first last agent.catalogue.gone) || not (length us == 0)) lost ∙ missing_is agent rules l time first last from x looks.items s;
       expired_is = gone ∙ range_run first last agent.catalogue.gone s.window_is.some ∙ ap range_of (sym (expired_run agent rules l time first last s.stands.expired s.window_is));
@@ -170,3 +174,12 @@ only_failed agent rules l time first last from x looks s t holds y has =
     let i = lost_is looks y has in
     let known : IsKnown rules l i.look.page.number x (Unread y.cause) = subst (IsKnown rules l i.look.page.number x) i.is (seen_page agent rules l time first last from x looks i.look s i.has).known in
     known.1 (told_of agent rules l time first last from x looks i.look s i.has (inl (ap looked_unread i.is)) t holds)
+
+-- what was read, by the shelf before the first page was asked and after the last
+pub read_from : (agent : Agent) (rules : Rules) (l : Ledger) (time first last from : ℕ) (x z : ShelfView) (looks : List Look) → Saw agent rules l time first last from x looks → LooksTo rules l from (last + 1 - from) looks x z → IsReadFrom rules l.account x z (reading_of looks)
+read_from agent rules l time first last from x z looks s looked = record {
+  causes = looked.causes;
+  told = λ y has told.
+      let i = fetched_is looks y has in
+      (fetched_digests rules l x i.look i.page y (seen_page agent rules l time first last from x looks i.look s i.has).known i.is i.at i.held_is).1 told;
+}

@@ -5,13 +5,16 @@ use Rattle.std.proofs.lemmas.Bool.{false_from_ne_true, le-leb, leb-true, false�
 use Rattle.std.proofs.lemmas.List.Elements.{Contains-append_cases, Contains-append_left, Contains-append_right}
 use Rattle.spie_base.proofs.Booleans.{or_true, both_held, both_hold, not_false}
 use Rattle.spie_base.proofs.Membership.{has_none, has_first, has_later, has_cases, from_filter, into_filter, from_map, into_map, from_flat_map, into_flat_map}
+use Rattle.spie_base.specs.Ascending.{in_order}
+use Rattle.spie_base.specs.Order.{sig_cmp}
 use Rattle.spie_base.specs.declared.PageNo.{PageNo}
 use Rattle.spie_base.specs.declared.Rules.{Rules}
 use Rattle.spie_base.specs.declared.Sig.{Sig}
 use Rattle.bloom_page.specs.Sets.{is_in}
 use Rattle.packet_signature.specs.declared.Row.{Row}
 use Rattle.packet_signature.specs.Row.{key_of, inverse_of}
-use Rattle.router_account.specs.Account.{Held, UsedPage, held, origins, rows_in, undone, window}
+use Rattle.used_pages.specs.UsedPages.{Held, UsedPage, has_key as row_has_key, rows_undone, undone}
+use Rattle.router_account.specs.Account.{held, origins, rows_in, window}
 use Rattle.router_account.specs.Ledger.{Ledger}
 use Rattle.router_account.specs.Shelves.{ShelfView}
 use Rattle.router_account.specs.Sights.{page_by, used_by, sight_by}
@@ -21,11 +24,11 @@ use Rattle.data_agent.specs.declared.looking.Look.{Look}
 use Rattle.data_agent.specs.declared.looking.Looked.{Looked}
 use Rattle.data_agent.specs.declared.looking.Looked.TheVariants.{Borrowed, ReadBack, Unread}
 use Rattle.data_agent.specs.Looking.{IsKnown, is_unread, looked_unread, looked_undone, reading_of, undone_by}
-use Rattle.data_agent.specs.Seeing.{undone_in, in_order}
+use Rattle.data_agent.specs.Seeing.{undone_in}
 use Rattle.data_agent.specs.Standing.{Stands}
 use Rattle.data_agent.proofs.Kept.{kept_here}
 use Rattle.data_agent.proofs.Looks.{look_at}
-use Rattle.data_agent.proofs.Ordered.{order_has}
+use Rattle.data_agent.proofs.Ordered.{sigs_have}
 use Rattle.data_agent.proofs.Origins.{has_range, has_table, table_has, is_between}
 use Rattle.data_agent.proofs.Seeing.{Saw, held_in, held_is, is_used, seen_page, used_is, used_numbers}
 
@@ -107,13 +110,23 @@ undone_here agent rules l time first last from x looks sig old s has =
     of_used agent rules l time first last from x looks k.look sig old s k.has read
     (subst (Contains (undone sig (page_by rules l (reading_of looks) k.look.page.number))) o.is (of_row sig (page_by rules l (reading_of looks) k.look.page.number) o.row (subst (λ rs. Contains rs o.row) (sym rows) row) o.key))
 
+-- rows say the same whatever their order
+rows_say : (sig old : Sig) (xs ys : List Row) → ((row : Row) → Contains xs row → Contains ys row) → Contains (rows_undone sig xs) old → Contains (rows_undone sig ys) old
+rows_say sig old xs ys same has =
+    let image = from_map (λ (r : Row). inverse_of r sig) (filter (row_has_key (key_of sig)) xs) old has in
+    let keyed = from_filter (row_has_key (key_of sig)) xs image.of image.has in
+    subst (Contains (rows_undone sig ys)) image.is
+    (into_map (λ (r : Row). inverse_of r sig) (filter (row_has_key (key_of sig)) ys) image.of (into_filter (row_has_key (key_of sig)) ys image.of (same image.of keyed.0) keyed.1))
+
 undone_read : (agent : Agent) (rules : Rules) (l : Ledger) (time first last from : ℕ) (x : ShelfView) (looks : List Look) (look : Look) (sig old : Sig) (w : Looked) → Saw agent rules l time first last from x looks → Contains looks look → look.looked ≡ w
     → Contains (looked_undone sig w) old → Contains (flat_map (undone sig) (map (page_by rules l (reading_of looks)) (used_by rules l (window rules l.account time) (reading_of looks)))) old
 undone_read agent rules l time first last from x looks look sig old (Borrowed r) s has e in_it = absurd (has_none old in_it)
 undone_read agent rules l time first last from x looks look sig old (Unread c) s has e in_it = absurd (has_none old in_it)
 undone_read agent rules l time first last from x looks look sig old (ReadBack p) s has e in_it =
     of_used agent rules l time first last from x looks look sig old s has (ap looked_unread e)
-    (subst (λ (h : Held). Contains (map (λ (r : Row). inverse_of r sig) (filter (λ (r : Row). r.key == key_of sig) h.rows)) old) (sym (held_is agent rules l time first last from x looks look (held rules l.account look.page.number) (ReadBack p) s has e)) in_it)
+    (subst (λ (h : Held). Contains (rows_undone sig h.rows) old) (sym (held_is agent rules l time first last from x looks look (held rules l.account look.page.number) (ReadBack p) s has e))
+    (let known : IsKnown rules l look.page.number x (ReadBack p) = subst (IsKnown rules l look.page.number x) e (seen_page agent rules l time first last from x looks look s has).known in
+    rows_say sig old p.rows p.read.value (λ row. (known.1.same row).0) in_it))
 
 -- and the other way round
 known_undone : (agent : Agent) (rules : Rules) (l : Ledger) (from last : ℕ) (x : ShelfView) (looks : List Look) (look : Look) (sig old : Sig) (w : Looked) → Stands agent rules l → Contains looks look → look.looked ≡ w → IsKnown rules l look.page.number x w → looked_unread w ≡ false
@@ -122,7 +135,7 @@ known_undone : (agent : Agent) (rules : Rules) (l : Ledger) (from last : ℕ) (x
     → Contains (undone_in from last sig (with_key (key_of sig) agent.table)) old ⊎ Contains (flat_map (undone_by sig) looks) old
 known_undone agent rules l from last x looks look sig old (Unread c) s has e known read near low high in_it = absurd (false≢true (sym read))
 known_undone agent rules l from last x looks look sig old (ReadBack p) s has e known read near low high in_it =
-    inr (into_flat_map (undone_by sig) looks look old has (subst (λ w. Contains (looked_undone sig w) old) (sym e) in_it))
+    inr (into_flat_map (undone_by sig) looks look old has (subst (λ w. Contains (looked_undone sig w) old) (sym e) (rows_say sig old p.read.value p.rows (λ row. (known.1.same row).1) in_it)))
 known_undone agent rules l from last x looks look sig old (Borrowed r) s has e known read near low high in_it =
     let image = from_map (λ (r : Row). inverse_of r sig) (filter (λ (r : Row). r.key == key_of sig) (rows_in l.account.rows look.page.number)) old in_it in
     let keyed = from_filter (λ (r : Row). r.key == key_of sig) (rows_in l.account.rows look.page.number) image.of image.has in
@@ -152,7 +165,7 @@ here_undone agent rules l time first last from x looks sig old s has =
     (subst (λ (h : Held). Contains (map (λ (r : Row). inverse_of r sig) (filter (λ (r : Row). r.key == key_of sig) h.rows)) old) (held_is agent rules l time first last from x looks k.look (held rules l.account k.look.page.number) k.look.looked s k.has refl) mine)
 
 pub origins_are : (agent : Agent) (rules : Rules) (l : Ledger) (time first last from : ℕ) (x : ShelfView) (looks : List Look) (sig old : Sig) → Saw agent rules l time first last from x looks
-    → Contains (in_order (sig ∷ (undone_in from last sig (with_key (key_of sig) agent.table) ++ flat_map (undone_by sig) looks))) old ↔ Contains (origins (sight_by rules l (window rules l.account time) (reading_of looks)) sig) old
+    → Contains (in_order sig_cmp (sig ∷ (undone_in from last sig (with_key (key_of sig) agent.table) ++ flat_map (undone_by sig) looks))) old ↔ Contains (origins (sight_by rules l (window rules l.account time) (reading_of looks)) sig) old
 origins_are agent rules l time first last from x looks sig old s =
     let mine : List Sig = undone_in from last sig (with_key (key_of sig) agent.table) in
     let back : List Sig = flat_map (undone_by sig) looks in
@@ -163,8 +176,8 @@ origins_are agent rules l time first last from x looks sig old s =
           (λ here. undone_here agent rules l time first last from x looks sig old s here)
           (λ read. let piece = from_flat_map (undone_by sig) looks old read in undone_read agent rules l time first last from x looks piece.of sig old piece.of.looked s piece.has refl piece.in_piece)
           (Contains-append_cases mine back old later)))
-          (has_cases sig (mine ++ back) old ((order_has (sig ∷ (mine ++ back)) old).0 h))),
-      λ h. (order_has (sig ∷ (mine ++ back)) old).1 (⊎_elim
+          (has_cases sig (mine ++ back) old ((sigs_have (sig ∷ (mine ++ back)) old).0 h))),
+      λ h. (sigs_have (sig ∷ (mine ++ back)) old).1 (⊎_elim
           (λ e. subst (Contains (sig ∷ (mine ++ back))) e (has_first sig (mine ++ back)))
           (λ later. has_later sig (mine ++ back) old (⊎_elim
           (λ here. Contains-append_left mine back old here)

@@ -1,5 +1,5 @@
 -- What an agent's calls need and do, by the ledger that the agent stands for.
-use Rattle.std.specs.Prelude.{ℕ, ◌≡◌, ◌≤◌, ◌<◌, ◌+◌, ◌-◌, ◌^◌, ◌++◌, ◌↔◌, Bool, true, false, List, length, map, option_map, is_some, Option, None, Some}
+use Rattle.std.specs.Prelude.{ℕ, ◌≡◌, ◌≤◌, ◌<◌, ◌+◌, ◌-◌, ◌^◌, ◌++◌, ◌↔◌, ◌⊎◌, Bool, true, false, List, length, map, option_map, is_some, Option, None, Some}
 use Rattle.std.specs.List.{Contains}
 use Rattle.spie_base.specs.Shown.{Shown}
 use Rattle.spie_base.specs.declared.PageNo.{PageNo}
@@ -9,10 +9,12 @@ use Rattle.spie_base.specs.declared.Sig.{Sig}
 use Rattle.packet_signature.specs.declared.Row.{Row}
 use Rattle.archive_record.specs.Spelling.{IsRow}
 use Rattle.page_catalogue.specs.Pages.{open_page}
-use Rattle.page_shelf.specs.Shelves.{Contents}
+use Rattle.page_shelf.specs.Shelves.{ChangesOnly, Contents}
+use Rattle.page_shelf.specs.declared.ShelfName.{ShelfName}
+use Rattle.page_shelf.specs.declared.ShelfPart.TheVariants.{Bits}
 use Rattle.router_account.specs.declared.Unreadable.{Unreadable}
 use Rattle.router_account.specs.Account.{hit, origins, rows_in, window}
-use Rattle.router_account.specs.Barriers.{IsSplitOf, AreLeft, Closing, closing_at}
+use Rattle.router_account.specs.Barriers.{IsCovered, IsSplitOf, AreLeft, Closing, archive_view, closing_at}
 use Rattle.router_account.specs.Ledger.{Ledger, PutBits, Split, Unfinished, no_split, at_archive, behind_barrier, was_expired}
 use Rattle.router_account.specs.Records.{Holds, HoldsBits, ArePageBits, HaveDigests, KeepsOthers}
 use Rattle.router_account.specs.Sights.{Reading, IsRead, sight_by, used_by, expired_by, page_no, range_of, unreadable_of}
@@ -66,6 +68,12 @@ MayNote stands = (rules : Rules) × (l : Ledger) × (u : Unfinished) × stands r
 abbrev pub with_more : (u more : Unfinished) → Unfinished
 with_more u more = record { refused = u.refused + more.refused; bits_put = u.bits_put ++ more.bits_put }
 
+-- the name of a bits record of a page that an archival covers now
+pub record IsNotedName (rules : Rules) (l : Ledger) (name : ShelfName) : Type 0 where
+  pub router : name.router.number ≡ l.account.router
+  pub part : name.part ≡ Bits
+  pub covered : IsCovered rules (archive_view l l.account.closings) name.page.number
+
 -- an archival was noted, and this came of its first puts
 pub record IsNoted (before after : Meaning) (more : Unfinished) (tells : Bool) (old new : Contents) : Type 0 where
   pub noted : (rules : Rules) (l : Ledger) (u : Unfinished) → before rules l u
@@ -79,6 +87,8 @@ pub record IsNoted (before after : Meaning) (more : Unfinished) (tells : Bool) (
       → HoldsBits rules new l.account more
   pub others : (rules : Rules) (l : Ledger) (u : Unfinished) → before rules l u → tells ≡ true
       → KeepsOthers l.account.router old new
+  pub untouched : (rules : Rules) (l : Ledger) (u : Unfinished) → before rules l u → tells ≡ true
+      → ChangesOnly (IsNotedName rules l) old new
 
 -- the same while passes are out. That what was put are the pages' bits is known once the passes are gathered
 pub record IsNotedBeside (before after : Meaning) (more : Unfinished) (tells : Bool) (old new : Contents) : Type 0 where
@@ -92,6 +102,8 @@ pub record IsNotedBeside (before after : Meaning) (more : Unfinished) (tells : B
       → HoldsBits rules new l.account more
   pub others : (rules : Rules) (l : Ledger) (u : Unfinished) → before rules l u → tells ≡ true
       → KeepsOthers l.account.router old new
+  pub untouched : (rules : Rules) (l : Ledger) (u : Unfinished) → before rules l u → tells ≡ true
+      → ChangesOnly (IsNotedName rules l) old new
 
 -- ---- a barrier
 
@@ -114,6 +126,17 @@ closing_of x = record { page = x.page.number; bits = x.bits }
 -- the pages of a barrier for which a call of the shelf failed
 abbrev pub marks_of : Barrier → ℕ
 marks_of b = length (split_of b).kept + length (left_of b)
+
+-- a page expires at a barrier, and an archival covered it
+pub record IsExpiring (rules : Rules) (before after : Ledger) (page : ℕ) : Type 0 where
+  pub covered : Contains after.covered_before page
+  pub first : was_expired rules before page ≡ false
+  pub expired : was_expired rules after page ≡ true
+
+-- the name of a record that a barrier may put or discard: of a page of the segment's archival, or of one that expires
+pub record IsPassedName (rules : Rules) (before after : Ledger) (split : Split) (name : ShelfName) : Type 0 where
+  pub router : name.router.number ≡ before.account.router
+  pub page : Contains (split.put ++ split.kept) name.page.number ⊎ IsExpiring rules before after name.page.number
 
 -- what a barrier tells of a ledger
 pub record IsPassed (rules : Rules) (l : Ledger) (clock : ℕ) (tick : Bool) (b : Barrier) : Type 0 where

@@ -4,7 +4,7 @@ use Rattle.std.specs.List.{Contains}
 use Rattle.spie_base.specs.Causes.{RoseBy}
 use Rattle.spie_base.specs.declared.PageNo.{PageNo}
 use Rattle.spie_base.specs.declared.Rules.{Rules}
-use Rattle.page_shelf.specs.Shelves.{Contents, IsSame}
+use Rattle.page_shelf.specs.Shelves.{ChangesOnly, Contents, IsSame}
 use Rattle.page_shelf.specs.declared.ShelfName.{ShelfName}
 use Rattle.page_shelf.specs.declared.ShelfPart.TheVariants.{Bits, Rows}
 use Rattle.shelved_page.specs.declared.shelving.Digests.{Digests}
@@ -172,6 +172,11 @@ finished_at l split = record l {
   closed_at_archive = None;
 }
 
+-- the name of a record of a page of the segment's archival
+pub record IsSplitName (router : ℕ) (split : Split) (name : ShelfName) : Type 0 where
+  pub router_is : name.router.number ≡ router
+  pub page : Contains (split.put ++ split.kept) name.page.number
+
 -- the segment's archival is finished, where one came
 pub record IsFinished (rules : Rules) (l : Ledger) (u : Unfinished) (archived : Option Archived) (agent : Agent)
     (before after : ShelfView) : Type 0 where
@@ -183,3 +188,5 @@ pub record IsFinished (rules : Rules) (l : Ledger) (u : Unfinished) (archived : 
       → ArePageBits rules l.account u
       → Holds rules after.contents (finished_at l (split_by archived))
   pub others : before.tells ≡ true → KeepsOthers l.account.router before.contents after.contents
+  pub untouched : before.tells ≡ true
+      → ChangesOnly (IsSplitName l.account.router (split_by archived)) before.contents after.contents

@@ -1,17 +1,18 @@
 -- How a query sees the pages of its window, one by one. No public clause cites this module.
-use Rattle.std.specs.Prelude.{ℕ, ◌≡◌, ◌+◌, ◌==◌, [], ◌∷◌, Bool, true, false, not, List, length, map, filter, filter_map, Option, None, Some}
+use Rattle.std.specs.Prelude.{ℕ, ◌≡◌, ◌+◌, ◌↔◌, [], ◌∷◌, Bool, true, false, not, List, length, map, filter, filter_map, Option, None, Some}
+use Rattle.std.specs.List.{Contains}
 use Rattle.spie_base.specs.Causes.{RoseBy}
 use Rattle.spie_base.specs.declared.PageNo.{PageNo}
 use Rattle.spie_base.specs.declared.Rules.{Rules}
 use Rattle.spie_base.specs.declared.Sig.{Sig}
 use Rattle.bloom_page.specs.Sets.{is_in}
 use Rattle.packet_signature.specs.declared.Row.{Row}
-use Rattle.packet_signature.specs.Row.{key_of, inverse_of}
+use Rattle.used_pages.specs.UsedPages.{Held, rows_undone}
 use Rattle.hash_family.specs.Positions.{family_of}
 use Rattle.spie_base.specs.Shapes.{shape_of}
 use Rattle.router_account.specs.declared.words.Cause.TheVariants.{Failed}
 use Rattle.router_account.specs.declared.words.Unreadable.{Unreadable}
-use Rattle.router_account.specs.Account.{Account, Held, held}
+use Rattle.router_account.specs.Account.{Account, held}
 use Rattle.router_account.specs.Ledger.{Ledger}
 use Rattle.router_account.specs.Records.{IsCause, HasDigests, AreTold}
 use Rattle.router_account.specs.Shelves.{ShelfView}
@@ -40,10 +41,7 @@ looked_shows (Unread cause) sig = false
 abbrev pub look_shows : Look → Sig → Bool
 look_shows look sig = looked_shows look.looked sig
 
--- what rows say that a signature was before
-abbrev pub rows_undone : Sig → List Row → List Sig
-rows_undone sig rows = map (λ row. inverse_of row sig) (filter (λ row. row.key == key_of sig) rows)
-
+-- what the rows of a page that was read back say that a signature was before
 abbrev pub looked_undone : Sig → Looked → List Sig
 looked_undone sig (Borrowed r) = []
 looked_undone sig (ReadBack p) = rows_undone sig p.rows
@@ -77,7 +75,7 @@ unread_in page (Unread cause) = Some (record { page = page; cause = cause })
 abbrev pub got_in : (page : ℕ) → Looked → Option GotPage
 got_in page (Borrowed r) = None
 got_in page (ReadBack p) =
-    Some (record { page = page; held = record { bits = p.resident.page.members; rows = p.rows } })
+    Some (record { page = page; held = record { bits = p.resident.page.members; rows = p.read.value } })
 got_in page (Unread cause) = None
 
 abbrev pub reading_of : List Look → Reading
@@ -91,13 +89,14 @@ reading_of looks = record {
 -- a page was read back with the digests that were kept
 pub record IsReadPage (rules : Rules) (a : Account) (page : ℕ) (p : ReadPage) : Type 0 where
   pub family : p.resident.family.value ≡ family_of (shape_of rules a.router) page
+  pub same : (row : Row) → Contains p.rows row ↔ Contains p.read.value row
   pub digests : HasDigests rules a
-      (record { page = page; held = record { bits = p.resident.page.members; rows = p.rows } })
+      (record { page = page; held = record { bits = p.resident.page.members; rows = p.read.value } })
 
 -- and is what was recorded
 abbrev pub IsTruePage : Rules → Account → (page : ℕ) → ReadPage → Type 0
 IsTruePage rules a page p =
-    (let h : Held = record { bits = p.resident.page.members; rows = p.rows } in h) ≡ held rules a page
+    (let h : Held = record { bits = p.resident.page.members; rows = p.read.value } in h) ≡ held rules a page
 
 -- a page was read from the shelf, or could not be
 abbrev pub IsReadBack : Rules → Account → (page : ℕ) → (before after : ShelfView) → Looked → Type 0
@@ -139,4 +138,5 @@ pub record LooksTo (rules : Rules) (l : Ledger) (first count : ℕ) (looks : Lis
     : Type 0 where
   pub count_is : length looks ≡ count
   pub each : AreLooks rules l before first looks
+  pub causes : (x : UnreadPage) → Contains (reading_of looks).unread x → IsCause rules l.account x.page before after x.cause
   pub rose : RoseBy (failures (reading_of looks)) before.faults after.faults

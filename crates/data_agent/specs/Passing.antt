@@ -1,5 +1,5 @@
 -- What the parts of a barrier do. Of these words only `StandsForSame` stands in a public clause.
-use Rattle.std.specs.Prelude.{ℕ, ◌≡◌, Bool, true, false, Option, None, Some, option_map, if◌then◌else◌}
+use Rattle.std.specs.Prelude.{ℕ, ◌≡◌, ◌≤◌, ◌⊎◌, ◌++◌, ◌∷◌, [], List, Bool, true, false, Option, None, Some, option_map, if◌then◌else◌}
 use Rattle.spie_base.specs.declared.Rules.{Rules}
 use Rattle.page_catalogue.specs.Pages.{is_due, open_page}
 use Rattle.router_account.specs.Account.{Account, after_tick, fill}
@@ -10,12 +10,20 @@ use Rattle.data_agent.specs.declared.outcome.Closed.{Closed}
 use Rattle.data_agent.specs.Calls.{closing_of}
 use Rattle.data_agent.specs.Standing.{StandsFor, StandsWhole}
 
--- the agent stands for a ledger with the same entries and rows
-abbrev pub StandsForSame : Agent → Rules → Ledger → Type 0
-StandsForSame agent rules l =
-    (after : Ledger) × (u : Unfinished) × StandsFor agent rules after u
-    × (after.account.router ≡ l.account.router) × (after.account.entries ≡ l.account.entries)
-    × (after.account.rows ≡ l.account.rows)
+-- the closings are as before, or one page more has closed, at a time up to this clock
+abbrev pub HasClosedOne : (clock : ℕ) → (before after : List ℕ) → Type 0
+HasClosedOne clock before after = (after ≡ before) ⊎ ((time : ℕ) × (time ≤ clock) × (after ≡ before ++ time ∷ []))
+
+-- the agent stands for a ledger with the same entries and rows, in which one page more at most has closed, at a time up to
+-- this clock
+pub record StandsForSame (agent : Agent) (rules : Rules) (l : Ledger) (clock : ℕ) : Type 0 where
+  pub after : Ledger
+  pub unfinished : Unfinished
+  pub stands : StandsFor agent rules after unfinished
+  pub router : after.account.router ≡ l.account.router
+  pub entries : after.account.entries ≡ l.account.entries
+  pub rows : after.account.rows ≡ l.account.rows
+  pub closings : HasClosedOne clock l.account.closings after.account.closings
 
 -- how many bits the open page has, where a tick closes it
 abbrev pub IsDueBits : Rules → Account → (clock : ℕ) → Option ℕ → Type 0

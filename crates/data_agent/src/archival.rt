@@ -17,7 +17,6 @@ ghost use Rattle.data_agent.specs.declared.archival.Note.{Note as TheNote};
 ghost use Rattle.data_agent.specs.Archiving.{HasClosed, IsHeld, KnowsPages, KnowsTimes, NotesOne, NotesTo, StaysBeside, place_at};
 ghost use Rattle.data_agent.specs.Beside.{Away, KeepsReads, StandsBeside, meaning_beside};
 ghost use Rattle.data_agent.specs.Calls.{MayNote, IsNoted, IsNotedBeside};
-ghost use Rattle.data_agent.specs.Passing.{StandsForSame};
 ghost use Rattle.data_agent.specs.Planes.{AreTaken, CountedSomebody, DefersPage, IsOwnPlane, IsPlaneSame, entries_of};
 ghost use Rattle.data_agent.specs.Probing.{StandsInSlot};
 ghost use Rattle.data_agent.specs.Finishing.{PutsAllDeferred, PutsDeferred};
@@ -259,8 +258,8 @@ impl Agent {
             (H.contents shelf.new)
             × RoseBy more.refused (H.faults shelf.old) (H.faults shelf.new)) }
         ensures tried { OnOk result ((page : ℕ) → DefersPage self.new page → ⊥) }
-        ensures recorded { OnErr result ((rules : TheRules) (l : Ledger) (u : Unfinished) → StandsFor self.old rules l u
-            → StandsForSame self.new rules l) }
+        ensures same { OnErr result ((rules : TheRules) (l : Ledger) (u : Unfinished) → StandsFor self.old rules l u
+            → StandsFor self.new rules l u) }
     {
         self.take_all(alloc, plane)?;
         self.note_closed(alloc, shelf)

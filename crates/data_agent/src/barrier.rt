@@ -3,11 +3,12 @@ ghost use Rattle.std.specs.Prelude.{◌≡◌, ◌≤◌, ◌<◌, ◌+◌, ◌-
 ghost use Rattle.std.specs.List.{Contains};
 ghost use Rattle.spie_base.specs.Causes.{RoseBy};
 ghost use Rattle.spie_base.specs.declared.Rules.{Rules as TheRules};
+ghost use Rattle.page_shelf.specs.Shelves.{ChangesOnly};
 ghost use Rattle.router_account.specs.Ledger.{Ledger, Unfinished, nothing_unfinished, behind_barrier, turned_at};
 ghost use Rattle.router_account.specs.Records.{Holds, HoldsBits, ArePageBits, KeepsOthers};
 ghost use Rattle.shelved_page.specs.Shelving.{view_of};
 ghost use Rattle.transform_table.specs.Tables.{rows_of_page};
-ghost use Rattle.data_agent.specs.Calls.{MayPass, MayTurn, IsPassed, split_of, left_of, marks_of};
+ghost use Rattle.data_agent.specs.Calls.{MayPass, MayTurn, IsPassed, IsPassedName, split_of, left_of, marks_of};
 ghost use Rattle.data_agent.specs.Expiring.{Discards, DiscardsOne, covers_at, IsExpiredBy, expired_with};
 ghost use Rattle.data_agent.specs.Planes.{IsOwnPlane, IsPlaneSame, entries_of};
 ghost use Rattle.data_agent.specs.Standing.{Stands, StandsFor, StandsWhole, StillStands};
@@ -133,7 +134,7 @@ impl Agent {
         ensures turned { OnOk result ((rules : TheRules) (l : Ledger) (u : Unfinished) → StandsWhole self.old rules l u
             → StandsWhole self.new rules (turned_at l clock) u) }
         ensures recorded { OnErr result ((rules : TheRules) (l : Ledger) (u : Unfinished)
-            → StandsWhole self.old rules l u → StandsForSame self.new rules l) }
+            → StandsWhole self.old rules l u → StandsForSame self.new rules l clock) }
     {
         self.rotate_alone(alloc, plane, clock)?;
         self.take_all(alloc, plane)
@@ -155,7 +156,7 @@ impl Agent {
             → StandsWhole self.old rules l u → IsTicked rules l u clock tick closed self.new) }
         ensures later { OnOk result (self.new.catalogue.clock ≤ clock) }
         ensures recorded { OnErr result ((rules : TheRules) (l : Ledger) (u : Unfinished)
-            → StandsWhole self.old rules l u → StandsForSame self.new rules l) }
+            → StandsWhole self.old rules l u → StandsForSame self.new rules l clock) }
     {
         if !tick {
             return Ok(None);
@@ -231,8 +232,12 @@ impl Agent {
             → Holds rules (H.contents shelf.new) (behind_barrier rules l clock tick (split_of b) (left_of b))) }
         ensures others { OnOk result ((rules : TheRules) (l : Ledger) (u : Unfinished) → StandsWhole self.old rules l u
             → H.tells shelf.old ≡ true → KeepsOthers l.account.router (H.contents shelf.old) (H.contents shelf.new)) }
+        ensures untouched { IfOk result (λ b. (rules : TheRules) (l : Ledger) (u : Unfinished)
+            → StandsWhole self.old rules l u → H.tells shelf.old ≡ true
+            → ChangesOnly (IsPassedName rules l (behind_barrier rules l clock tick (split_of b) (left_of b)) (split_of b))
+            (H.contents shelf.old) (H.contents shelf.new)) }
         ensures recorded { OnErr result ((rules : TheRules) (l : Ledger) (u : Unfinished)
-            → StandsWhole self.old rules l u → StandsForSame self.new rules l) }
+            → StandsWhole self.old rules l u → StandsForSame self.new rules l clock) }
     {
         let archived = self.finish(alloc, shelf)?;
         let closed = self.close(alloc, plane, clock, tick)?;
@@ -278,8 +283,12 @@ impl Agent {
             → Holds rules (H.contents shelf.new) (behind_barrier rules l clock tick (split_of b) (left_of b))) }
         ensures others { OnOk result ((rules : TheRules) (l : Ledger) (u : Unfinished) → StandsFor self.old rules l u
             → H.tells shelf.old ≡ true → KeepsOthers l.account.router (H.contents shelf.old) (H.contents shelf.new)) }
+        ensures untouched { IfOk result (λ b. (rules : TheRules) (l : Ledger) (u : Unfinished)
+            → StandsFor self.old rules l u → H.tells shelf.old ≡ true
+            → ChangesOnly (IsPassedName rules l (behind_barrier rules l clock tick (split_of b) (left_of b)) (split_of b))
+            (H.contents shelf.old) (H.contents shelf.new)) }
         ensures recorded { OnErr result ((rules : TheRules) (l : Ledger) (u : Unfinished) → StandsFor self.old rules l u
-            → StandsForSame self.new rules l) }
+            → StandsForSame self.new rules l clock) }
     {
         self.take_all(alloc, plane)?;
         self.pass(alloc, plane, shelf, clock, tick)

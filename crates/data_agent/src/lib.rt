@@ -43,8 +43,8 @@
 //!
 //! # What is in memory
 //!
-//! For each router a plane, which is 5 + 4·2^(n-6) words, 32 KiB at n 16; the keeper with the hash functions of one page, about 700
-//! bytes; for each page that was collected, has not expired and is not on the shelf 2^(n-6) words and 560 bytes of hash
+//! For each router a plane, which is 5 + 4·2^(n-6) words, 32 KiB at n 16; the keeper with the hash functions of a page for each slot,
+//! about 2,400 bytes; for each page that was collected, has not expired and is not on the shelf 2^(n-6) words and 560 bytes of hash
 //! functions; as much for the copy, from a `prepare` to the next barrier; for each page on the shelf 64 bytes; and the rows.
 //!
 //! Read `specs/Calls.antt`, `specs/Planes.antt`, `specs/Standing.antt`, `agent`, `rotating`, `slots`, `watch`, `archival`, `finishing`,

@@ -1,29 +1,35 @@
 // One page of a query's window: borrowed where it is in memory, and read back where it is on the shelf.
-ghost use Rattle.std.specs.Prelude.{◌≡◌, ◌++◌, ◌+◌, ◌-◌, ◌≤◌, ◌<◌, ℕ, true, IfOk, OnOk};
+ghost use Rattle.std.specs.Prelude.{◌≡◌, ◌↔◌, ◌++◌, ◌+◌, ◌-◌, ◌≤◌, ◌<◌, ℕ, true, IfOk, OnOk};
+ghost use Rattle.std.specs.List.{Contains};
 ghost use Rattle.spie_base.specs.declared.Rules.{Rules as TheRules};
+ghost use Rattle.packet_signature.specs.declared.Row.{Row as TheRow};
 ghost use Rattle.router_account.specs.Ledger.{Ledger};
 ghost use Rattle.shelved_page.specs.Reading.{Gets};
 ghost use Rattle.shelved_page.specs.Shelving.{view_of};
 ghost use Rattle.data_agent.specs.Archiving.{HasClosed};
-ghost use Rattle.data_agent.specs.Looking.{IsLooked, IsReadBack, LooksTo, is_unread, look_shows, undone_by, rows_undone, used_of, unread_of, unread_where};
+ghost use Rattle.data_agent.specs.Looking.{IsLooked, IsReadBack, LooksTo, is_unread, look_shows, undone_by, used_of, unread_of, unread_where};
 ghost use Rattle.data_agent.specs.Planes.{IsCopy, IsPrepared};
 ghost use Rattle.data_agent.specs.Residents.{IsResident};
 ghost use Rattle.data_agent.specs.Standing.{AreDigests, Stands};
 
 use crate::closed_page::Whereabouts;
 use crate::{Agent, Resident};
-use packet_signature::{Row, inverse, key};
+use packet_signature::Row;
 use page_shelf::Shelf;
 use router_account::{Cause, Unreadable};
 use shelved_page::{Back, Digests, read_back};
 use spie_base::{List, NoMemory, PageNo, Sig};
 use std::alloc::Global;
+use std::snapshot::Snapshot;
+use used_pages::{KeyedRows, Origins};
 
 /// A page that was read back from the shelf.
 #[derive(Drop)]
 pub struct ReadPage {
     pub(crate) resident: Resident,
-    pub(crate) rows: List<Row>,
+    // The rows as they were read, which only clauses see.
+    pub(crate) read: Snapshot<List<Row>>,
+    pub(crate) rows: KeyedRows,
 }
 
 /// How a page is seen.
@@ -41,17 +47,20 @@ pub struct Look<'a> {
     pub(crate) looked: Looked<'a>,
 }
 
-// Adds what rows with the key of a signature say that it was before.
-fn undo_rows(olds: &mut Vec<Sig>, rows: &[Row], sig: &Sig) -> Result<(), NoMemory>
-    ensures { OnOk result (olds.new.items ≡ olds.old.items ++ rows_undone sig.now rows.now) }
-{
-    let wanted = key(sig);
-    for row in rows {
-        if row.key == wanted {
-            olds.push(inverse(row, sig))?;
+impl ReadPage {
+    // A page, with its rows put in order of their keys.
+    fn of(resident: Resident, rows: List<Row>) -> ReadPage
+        ensures resident { result.resident ≡ resident }
+        ensures read { result.read.value ≡ rows }
+        ensures same { (row : TheRow) → Contains result.rows row ↔ Contains rows row }
+    {
+        let read = Snapshot::of(&rows);
+        ReadPage {
+            resident,
+            read,
+            rows: KeyedRows::of(rows.into_vec()),
         }
     }
-    Ok(())
 }
 
 impl<'a> Look<'a> {
@@ -92,12 +101,13 @@ impl<'a> Look<'a> {
     }
 
     // Adds what the rows that were read back say that a signature was before.
-    pub(crate) fn undo(&self, olds: &mut Vec<Sig>, sig: &Sig) -> Result<(), NoMemory>
-        ensures { OnOk result (olds.new.items ≡ olds.old.items ++ undone_by sig.now self.now) }
+    pub(crate) fn undo(&self, origins: &mut Origins) -> Result<(), NoMemory>
+        ensures sig { origins.new.sig ≡ origins.old.sig }
+        ensures more { OnOk result (origins.new.olds ≡ origins.old.olds ++ undone_by origins.old.sig self.now) }
     {
         match &self.looked {
             Looked::Borrowed(_) => Ok(()),
-            Looked::ReadBack(page) => undo_rows(olds, page.rows.items(), sig),
+            Looked::ReadBack(page) => origins.add_rows(&page.rows),
             Looked::Unread(_) => Ok(()),
         }
     }
@@ -167,10 +177,8 @@ impl Agent {
         match read_back(alloc, shelf, &self.head(page), self.rules.n, digests)? {
             Back::Got(content) => {
                 let resident = Resident::of(alloc, &self.rules, self.router, page, content.bits)?;
-                Ok(Looked::ReadBack(ReadPage {
-                    resident,
-                    rows: content.rows,
-                }))
+                let page = ReadPage::of(resident, content.rows);
+                Ok(Looked::ReadBack(page))
             }
             Back::Bad(cause) => Ok(Looked::Unread(cause)),
         }

@@ -4,7 +4,9 @@ ghost use Rattle.spie_base.specs.Causes.{RoseBy};
 ghost use Rattle.spie_base.specs.declared.Rules.{Rules as TheRules};
 ghost use Rattle.page_shelf.specs.Shelves.{IsSame};
 ghost use Rattle.router_account.specs.Ledger.{Ledger, Unfinished};
+ghost use Rattle.router_account.specs.Readings.{IsReadFrom};
 ghost use Rattle.router_account.specs.Records.{Holds, AreTrue, AllFailed};
+ghost use Rattle.router_account.specs.Shelves.{view_of};
 ghost use Rattle.router_account.specs.Sights.{failures};
 ghost use Rattle.packet_signature.specs.Row.{key_of};
 ghost use Rattle.transform_table.specs.Tables.{with_key};
@@ -17,12 +19,12 @@ ghost use Rattle.data_agent.specs.Standing.{StandsFor};
 
 use crate::Agent;
 use crate::looking::{Look, unread_pages, used_pages};
-use packet_signature::{inverse, key};
 use page_shelf::Shelf;
 use router_account::Unreadable;
-use spie_base::{List, NoMemory, PageNo, PageRange, Sig, Sighting, ascending};
+use spie_base::{List, NoMemory, PageNo, PageRange, Sig, Sighting};
 use std::alloc::Global;
 use transform_table::Table;
+use used_pages::Origins;
 
 /// What a query sees of a router. It borrows the agent's pages, and owns what was read back from the shelf.
 #[derive(Drop)]
@@ -60,26 +62,29 @@ impl<'a> Sight<'a> {
         self.used.items()
     }
 
-    // Adds what the rows of the pages say that a signature was before.
-    fn undo(&self, olds: &mut Vec<Sig>, sig: &Sig) -> Result<(), NoMemory>
-        ensures { OnOk result (olds.new.items
-            ≡ olds.old.items ++ undone_in self.now.first self.now.last sig.now
-            (with_key (key_of sig.now) self.now.rows.now)) }
+    // Adds what the rows of the pages in memory say that a signature was before.
+    fn undo(&self, origins: &mut Origins) -> Result<(), NoMemory>
+        ensures sig { origins.new.sig ≡ origins.old.sig }
+        ensures more { OnOk result (origins.new.olds
+            ≡ origins.old.olds ++ undone_in self.now.first self.now.last origins.old.sig
+            (with_key (key_of origins.old.sig) self.now.rows.now)) }
     {
-        for (page, row) in self.rows.find(key(sig)) {
+        for (page, row) in self.rows.find(origins.key()) {
             if self.first <= page.number && page.number <= self.last {
-                olds.push(inverse(&row, sig))?;
+                origins.add(&row)?;
             }
         }
         Ok(())
     }
 
     // Adds what the rows that were read back say that a signature was before.
-    fn undo_read(&self, olds: &mut Vec<Sig>, sig: &Sig) -> Result<(), NoMemory>
-        ensures { OnOk result (olds.new.items ≡ olds.old.items ++ flat_map (undone_by sig.now) self.now.looks.items) }
+    fn undo_read(&self, origins: &mut Origins) -> Result<(), NoMemory>
+        ensures sig { origins.new.sig ≡ origins.old.sig }
+        ensures more { OnOk result (origins.new.olds
+            ≡ origins.old.olds ++ flat_map (undone_by origins.old.sig) self.now.looks.items) }
     {
         for look in &self.looks {
-            look.undo(olds, sig)?;
+            look.undo(origins)?;
         }
         Ok(())
     }
@@ -98,10 +103,10 @@ impl<'a> Sighting for Sight<'a> {
     }
 
     fn origins(&self, alloc: Global, sig: &Sig) -> Result<Vec<Sig>, NoMemory> {
-        let mut olds = vec![in alloc; *sig]?;
-        self.undo(&mut olds, sig)?;
-        self.undo_read(&mut olds, sig)?;
-        Ok(ascending(olds).into_vec())
+        let mut origins = Origins::of(alloc, sig)?;
+        self.undo(&mut origins)?;
+        self.undo_read(&mut origins)?;
+        Ok(origins.into_ascending())
     }
 
     fn has_missing(&self) -> bool {
@@ -155,6 +160,10 @@ impl Agent {
         ensures only_faults { IfOk result (λ s. (rules : TheRules) (l : Ledger) (u : Unfinished)
             → StandsFor self.now rules l u → H.tells shelf.old ≡ true
             → Holds rules (H.contents shelf.old) l → AllFailed (told_by s).reading) }
+        ensures read_from { let before = view_of H.tells H.contents H.faults shelf.old in
+            let after = view_of H.tells H.contents H.faults shelf.new in
+            IfOk result (λ s. (rules : TheRules) (l : Ledger) (u : Unfinished) → StandsFor self.now rules l u
+            → IsReadFrom rules l.account before after (told_by s).reading) }
         ensures unchanged { OnOk result (H.tells shelf.old ≡ true
             → IsSame (H.contents shelf.old) (H.contents shelf.new)) }
     {

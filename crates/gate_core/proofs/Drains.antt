@@ -25,7 +25,8 @@ use Rattle.gate_core.specs.declared.steps.StepAnswer.TheVariants as answer
 use Rattle.gate_core.specs.declared.states.ActorState.TheVariants as actor_state
 use Rattle.gate_core.specs.declared.core_data.CoreData.{CoreData}
 use Rattle.gate_core.specs.declared.core_data.Desk.{Desk}
-use Rattle.spie_base.specs.Shapes.{IsShape}
+use Rattle.spie_base.specs.Shapes.{IsShape, most_words}
+use Rattle.spie_base.specs.declared.types.TheConstants.{N_LEAST, N_MOST}
 use Rattle.gate_core.specs.Kept.{notes_of, duties_of, view_of, paid, HasDeskRoom, Holds, DoesAct}
 use Rattle.gate_core.specs.Desks.{slot_in, phased, after_word, AddsWord}
 use Rattle.gate_core.proofs.Gates.{tested}
@@ -305,8 +306,8 @@ get_or-words_in (x ∷ xs) (suc i) v e = get_or-words_in xs i v e
 
 -- ---- what the words of a quiet slot are
 
-pub narrow : (shape : PageShape) → IsShape shape → width shape ≤ 2 ^ 14
-narrow shape r = let a = r.n_most in let e : shape.n - 6 ≤ 14 = omega arith in pow_mono e
+pub narrow : (shape : PageShape) → IsShape shape → width shape ≤ most_words
+narrow shape r = let a = r.n_most in let e : shape.n - N_LEAST ≤ N_MOST - N_LEAST = omega arith in pow_mono e
 
 module _ (m : CoreData) (h : Holds m) (s next : ℕ) (near : s < 4) (quiet : (slot_in m.desk s).phase ≡ Quiet next) where
   abbrev page : ℕ

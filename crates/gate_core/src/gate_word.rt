@@ -7,6 +7,7 @@ ghost use Rattle.std.specs.Int.{bit_at};
 ghost use Rattle.gate_core.specs.Acts.{bit_place, gate_place, inside_of, numbered, page_of, seal_of, reopening, reopened};
 ghost use Rattle.gate_core.specs.Marks.{width};
 ghost use Rattle.gate_core.specs.declared.limits.TheConstants.{SLOTS};
+ghost use Rattle.spie_base.specs.Shapes.{most_words};
 ghost use Rattle.spie_base.specs.declared.types.TheConstants.{N_LEAST, N_MOST};
 
 use spie_base::{N_LEAST, N_MOST, PageNo, PageShape};
@@ -52,13 +53,13 @@ pub fn gate_at(slot: u8) -> usize
     FIRST_GATE + usize::from(slot)
 }
 
-/// How many words the bits of a slot fill, 1 to 16,384.
+/// How many words the bits of a slot fill, 1 to 2^(`N_MOST` - `N_LEAST`).
 pub fn width(shape: &PageShape) -> u32
     requires n_least { N_LEAST ≤ shape.now.n }
     requires n_most { shape.now.n ≤ N_MOST }
     ensures exact { result ≡ width shape.now }
     ensures some { 1 ≤ result }
-    ensures most { result ≤ 16384 }
+    ensures most { result ≤ most_words }
 {
     1 << (shape.n - N_LEAST)
 }

@@ -1,6 +1,7 @@
 // What can be read of the machine.
 ghost use Rattle.std.specs.Prelude.{◌≡◌, ◌≤◌, ◌<◌, ◌+◌, ◌*◌, ◌^◌, ◌↔◌, ℕ, IsSome, IfSome, position, length, slice_index};
 ghost use Rattle.std.specs.Option.{ForSome};
+ghost use Rattle.spie_base.specs.Shapes.{most_words};
 ghost use Rattle.bloom_page.specs.Bits.{members_of};
 ghost use Rattle.gate_core.specs.Marks.{width};
 ghost use Rattle.gate_core.specs.Views.{slot_at, collected_of};
@@ -96,7 +97,7 @@ impl CoreData {
         requires near { ForSome slot (λ s. s < SLOTS) }
         requires within { from ≤ width self.now.shape }
         ensures words { result.now ≡ live_from (core_of self.now) slot from }
-        ensures few { length result.now ≤ 16384 }
+        ensures few { length result.now ≤ most_words }
     {
         let Some(slot) = slot else {
             return &[];

@@ -19,6 +19,10 @@ pub record IsSet (name : ShelfName) (content : Option (List ℕ)) (before after 
   pub here : after name ≡ content
   pub others : (other : ShelfName) → (other ≡ name → ⊥) → after other ≡ before other
 
+-- the same as before stands under each name that is none of these
+abbrev pub ChangesOnly : (names : ShelfName → Type 0) → (before after : Contents) → Type 0
+ChangesOnly names before after = (name : ShelfName) → (names name → ⊥) → after name ≡ before name
+
 -- the count of faults never falls, and a call fails exactly where it rose
 pub record IsCaused {T : Type 0} (before after : ℕ) (result : Result T ShelfRefused) : Type 0 where
   pub later : before ≤ after

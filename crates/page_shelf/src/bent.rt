@@ -1,5 +1,10 @@
 // A shelf that lies once, for tests.
-ghost use Rattle.std.specs.Prelude.{◌≡◌, ◌≤◌, vec_len, IfSome};
+ghost use Rattle.std.specs.Prelude.{◌≡◌, ◌≤◌, ◌+◌, vec_len, IfOk, IfSome};
+ghost use Rattle.page_shelf.specs.Bent.{bent_by, bent_of, bytes_of, flipped, handed_out, shelf_in};
+ghost use Rattle.spie_base.specs.Memory.{counted};
+ghost use Rattle.page_shelf.specs.declared.bent.Bend.TheVariants.{Flip};
+ghost use Rattle.page_shelf.specs.Memory.{IsCounted, calls_of};
+ghost use Rattle.page_shelf.specs.Shelves.{IsCaused};
 
 use crate::{MemShelf, Shelf, ShelfName, ShelfRefused};
 use std::alloc::Global;
@@ -28,6 +33,8 @@ impl BentShelf {
     /// Flips a bit in what the get of number `bent` hands out. Gets are counted from 0, those that fail too.
     pub fn new(inner: MemShelf, bent: u64) -> BentShelf
         ensures faults { ⟦<BentShelf as Shelf>⟧.faults result ≡ ⟦<MemShelf as Shelf>⟧.faults inner }
+        ensures bent { bent_of result ≡ record { number = bent; bend = Flip; gets = 0 } }
+        ensures inner { shelf_in result ≡ inner }
     {
         BentShelf::bending(inner, bent, Bend::Flip)
     }
@@ -35,6 +42,8 @@ impl BentShelf {
     /// Bends the get of number `bent`. Gets are counted from 0, those that fail too.
     pub fn bending(inner: MemShelf, bent: u64, bend: Bend) -> BentShelf
         ensures faults { ⟦<BentShelf as Shelf>⟧.faults result ≡ ⟦<MemShelf as Shelf>⟧.faults inner }
+        ensures bent { bent_of result ≡ record { number = bent; bend = bend; gets = 0 } }
+        ensures inner { shelf_in result ≡ inner }
     {
         BentShelf {
             inner,
@@ -45,16 +54,19 @@ impl BentShelf {
     }
 }
 
-fn flip_last(bytes: &mut Vec<u8>)
-    ensures { vec_len bytes.new ≡ vec_len bytes.old }
+// The lowest bit of the last byte is the other one.
+fn flip_last(bytes: &mut [u8])
+    ensures { bytes.new ≡ flipped bytes.old }
 {
-    if let Some(last) = bytes.last_mut() {
-        *last ^= 1;
+    let count = bytes.len();
+    if count > 0 {
+        bytes[count - 1] ^= 1;
     }
 }
 
 fn bend_bytes(mut bytes: Vec<u8>, bend: Bend) -> Option<Vec<u8>>
-    ensures { IfSome result (λ v. vec_len v ≤ vec_len bytes) }
+    ensures bent { bytes_of result ≡ bent_by bend bytes.items }
+    ensures bound { IfSome result (λ v. vec_len v ≤ vec_len bytes) }
 {
     match bend {
         Bend::Flip => {
@@ -76,7 +88,7 @@ impl Shelf for BentShelf {
 
     ghost contents = { λ s name. None };
 
-    ghost faults = { λ s. ⟦<MemShelf as Shelf>⟧.faults s.inner };
+    ghost faults = { λ s. s.inner.faults };
 
     fn put(&mut self, alloc: Global, name: &ShelfName, bytes: &[u8]) -> Result<(), ShelfRefused> {
         self.inner.put(alloc, name, bytes)
@@ -87,7 +99,15 @@ impl Shelf for BentShelf {
         alloc: Global,
         name: &ShelfName,
         most: usize,
-    ) -> Result<Option<Vec<u8>>, ShelfRefused> {
+    ) -> Result<Option<Vec<u8>>, ShelfRefused>
+        ensures cause { IsCaused (calls_of (shelf_in self.old)).failed (calls_of (shelf_in self.new)).failed result }
+        ensures bound { IfOk result (λ got. IfSome got (λ v. vec_len v ≤ most + 1)) }
+
+        // Which get is bent, and how.
+        ensures handed { IfOk result (λ got. bytes_of got ≡ handed_out self.old name.now most) }
+        ensures counted { IsCounted (calls_of (shelf_in self.old)) (calls_of (shelf_in self.new)) }
+        ensures bent { bent_of self.new ≡ record (bent_of self.old) { gets = counted self.old.gets } }
+    {
         let number = self.gets;
         self.gets = number.saturating_add(1);
         match self.inner.get(alloc, name, most) {

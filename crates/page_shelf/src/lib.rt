@@ -16,6 +16,7 @@
 
 mod bent;
 mod folder;
+pub mod laws;
 mod memory;
 mod names;
 mod shelf;

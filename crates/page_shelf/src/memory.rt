@@ -1,9 +1,10 @@
 // A shelf in memory, some of whose calls fail.
-ghost use Rattle.std.specs.Prelude.{◌≡◌, ◌+◌, None, true, take, IfOk, OnErr, IsErrOf};
+ghost use Rattle.std.specs.Prelude.{◌≡◌, ◌≤◌, ◌+◌, ◌↔◌, None, Some, true, false, take, IfOk, IfSome, OnOk, OnErr, IsErrOf, vec_len, if◌then◌else◌};
+ghost use Rattle.spie_base.specs.Memory.{counted, is_listed};
 ghost use Rattle.page_shelf.specs.declared.names.ShelfName.{ShelfName};
 ghost use Rattle.page_shelf.specs.declared.names.ShelfRefused.TheVariants.{Failed};
-ghost use Rattle.page_shelf.specs.Memory.{key_of};
-ghost use Rattle.page_shelf.specs.Shelves.{IsCaused};
+ghost use Rattle.page_shelf.specs.Memory.{IsCounted, calls_of, fails_now, held_by, key_of};
+ghost use Rattle.page_shelf.specs.Shelves.{Finds, IsCaused, IsSame, IsSet};
 
 use crate::{Shelf, ShelfName, ShelfPart, ShelfRefused};
 use spie_base::NoMemory;
@@ -38,12 +39,38 @@ fn front_of(alloc: Global, bytes: &[u8], most: usize) -> Result<Vec<u8>, AllocEr
     Vec::from_slice(alloc, &bytes[..count])
 }
 
+// Whether a call's number is among those listed.
+fn is_listed(listed: &[u64], call: u64) -> bool
+    ensures { result ≡ is_listed listed.now call }
+{
+    listed.iter().any(|other| *other == call)
+}
+
+// Counts a call, and fails it where its number is listed.
+fn count(failing: &[u64], calls: &mut u64, faults: &mut u64) -> Result<(), ShelfRefused>
+    ensures listed { OnErr result (is_listed failing.now calls.old ≡ true) }
+    ensures unlisted { OnOk result (is_listed failing.now calls.old ≡ false) }
+    ensures calls { calls.new ≡ counted calls.old }
+    ensures faults { faults.new ≡ if is_listed failing.now calls.old then counted faults.old else faults.old }
+    ensures cause { IsCaused faults.old faults.new result }
+    ensures why { OnErr result (IsErrOf result Failed) }
+{
+    let call = *calls;
+    *calls = call.saturating_add(1);
+    if is_listed(failing, call) {
+        *faults = faults.saturating_add(1);
+        return Err(ShelfRefused::Failed);
+    }
+    Ok(())
+}
+
 impl MemShelf {
-    /// An empty shelf. Calls are numbered from 0, and those listed fail.
+    /// An empty shelf. Calls are numbered from 0 over puts, gets and discards, and those listed fail.
     pub fn new(alloc: Global, failing: &[u64]) -> Result<MemShelf, NoMemory>
         ensures tells { IfOk result (λ shelf. ⟦<MemShelf as Shelf>⟧.tells shelf ≡ true) }
         ensures empty { IfOk result (λ shelf. (name : ShelfName) → ⟦<MemShelf as Shelf>⟧.contents shelf name ≡ None) }
         ensures faultless { IfOk result (λ shelf. ⟦<MemShelf as Shelf>⟧.faults shelf ≡ 0) }
+        ensures calls { IfOk result (λ shelf. calls_of shelf ≡ record { failing = failing.now; made = 0; failed = 0 }) }
     {
         Ok(MemShelf {
             kept: BTreeMap::new(alloc),
@@ -52,35 +79,28 @@ impl MemShelf {
             faults: 0,
         })
     }
-
-    // Counts the call, and fails it where it is listed.
-    fn count(&mut self) -> Result<(), ShelfRefused>
-        ensures kept { self.new.kept ≡ self.old.kept }
-        ensures cause { IsCaused self.old.faults self.new.faults result }
-        ensures why { OnErr result (IsErrOf result Failed) }
-    {
-        let call = self.calls;
-        self.calls = call.saturating_add(1);
-        if self.failing.contains(&call) {
-            self.faults = self.faults.saturating_add(1);
-            return Err(ShelfRefused::Failed);
-        }
-        Ok(())
-    }
 }
 
 impl Shelf for MemShelf {
     ghost use Rattle.std.specs.Prelude.{true};
-    ghost use Rattle.page_shelf.specs.Memory.{contents_of};
+    ghost use Rattle.page_shelf.specs.Memory.{held_by};
 
     ghost tells = { λ s. true };
 
-    ghost contents = { λ s. contents_of s.kept };
+    ghost contents = { λ s. held_by s };
 
     ghost faults = { λ s. s.faults };
 
-    fn put(&mut self, alloc: Global, name: &ShelfName, bytes: &[u8]) -> Result<(), ShelfRefused> {
-        self.count()?;
+    fn put(&mut self, alloc: Global, name: &ShelfName, bytes: &[u8]) -> Result<(), ShelfRefused>
+        ensures cause { IsCaused (calls_of self.old).failed (calls_of self.new).failed result }
+        ensures set { OnOk result (IsSet name.now (Some bytes.now) (held_by self.old) (held_by self.new)) }
+        ensures same { OnErr result (IsSame (held_by self.old) (held_by self.new)) }
+
+        // Which calls fail, and how they are counted.
+        ensures failed { IsErrOf result Failed ↔ (fails_now (calls_of self.old) ≡ true) }
+        ensures counted { IsCounted (calls_of self.old) (calls_of self.new) }
+    {
+        count(&self.failing, &mut self.calls, &mut self.faults)?;
         let copy = Vec::from_slice(alloc, bytes)?;
         self.kept.insert(key_of(name), copy)?;
         Ok(())
@@ -91,16 +111,33 @@ impl Shelf for MemShelf {
         alloc: Global,
         name: &ShelfName,
         most: usize,
-    ) -> Result<Option<Vec<u8>>, ShelfRefused> {
-        self.count()?;
+    ) -> Result<Option<Vec<u8>>, ShelfRefused>
+        ensures cause { IsCaused (calls_of self.old).failed (calls_of self.new).failed result }
+        ensures found { IfOk result (λ got. Finds (held_by self.old name.now) most got) }
+        ensures bound { IfOk result (λ got. IfSome got (λ v. vec_len v ≤ most + 1)) }
+        ensures same { IsSame (held_by self.old) (held_by self.new) }
+
+        // Which calls fail, and how they are counted.
+        ensures failed { IsErrOf result Failed ↔ (fails_now (calls_of self.old) ≡ true) }
+        ensures counted { IsCounted (calls_of self.old) (calls_of self.new) }
+    {
+        count(&self.failing, &mut self.calls, &mut self.faults)?;
         match self.kept.get(&key_of(name)) {
             Some(bytes) => Ok(Some(front_of(alloc, bytes, most)?)),
             None => Ok(None),
         }
     }
 
-    fn discard(&mut self, _alloc: Global, name: &ShelfName) -> Result<(), ShelfRefused> {
-        self.count()?;
+    fn discard(&mut self, _alloc: Global, name: &ShelfName) -> Result<(), ShelfRefused>
+        ensures cause { IsCaused (calls_of self.old).failed (calls_of self.new).failed result }
+        ensures set { OnOk result (IsSet name.now None (held_by self.old) (held_by self.new)) }
+        ensures same { OnErr result (IsSame (held_by self.old) (held_by self.new)) }
+
+        // Which calls fail, and how they are counted.
+        ensures failed { IsErrOf result Failed ↔ (fails_now (calls_of self.old) ≡ true) }
+        ensures counted { IsCounted (calls_of self.old) (calls_of self.new) }
+    {
+        count(&self.failing, &mut self.calls, &mut self.faults)?;
         let _ = self.kept.remove(&key_of(name));
         Ok(())
     }

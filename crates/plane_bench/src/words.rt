@@ -4,9 +4,12 @@ ghost use Rattle.spie_base.specs.Shapes.{IsShape};
 ghost use Rattle.gate_core.specs.declared.limits.TheConstants.{MOST_PASSES};
 
 use gate_core::MOST_PASSES;
-use spie_base::{K_MOST, N_MOST, NoMemory, PageShape, RouterId};
+use spie_base::{K_MOST, NoMemory, PageShape, RouterId};
 use std::alloc::Global;
 use std::env;
+
+// Positions of 16 bits, as in a trace of version 1.
+const POSITION_BITS: u8 = 16;
 
 #[derive(Clone, Copy)]
 pub enum What {
@@ -50,7 +53,7 @@ fn work_of(what: &str, k: &str, threads: &str, records: &str) -> Option<Work> {
     }
     let shape = PageShape {
         k,
-        n: N_MOST,
+        n: POSITION_BITS,
         base: 7,
         router: RouterId { number: 0 },
     };

@@ -114,7 +114,7 @@ asks_keep lane net layout inside node old new before after asks = record {
 }
 
 -- what was settled stays settled
-settled_kept : (net : Net) (layout : Layout) (inside : ℕ → Bool) (old new : Search) (n : Node) → length layout.names ≤ ROUTERS_MOST → ((a b : ℕ) → IsTrue (net.linked a b) → b < length layout.names) → KeepsNames old new → SameTold n old new → IsSettled net inside old n → IsSettled net inside new n
+pub settled_kept : (net : Net) (layout : Layout) (inside : ℕ → Bool) (old new : Search) (n : Node) → length layout.names ≤ ROUTERS_MOST → ((a b : ℕ) → IsTrue (net.linked a b) → b < length layout.names) → KeepsNames old new → SameTold n old new → IsSettled net inside old n → IsSettled net inside new n
 settled_kept net layout inside old new n few ends keeps same is = record {
   found = same.found ∙ is.found;
   known = ap is_hit_cell same.cell ∙ is.known;

@@ -35,7 +35,7 @@ rows_kept old new rows size are =
     let Are : _ → Type 0 = λ m. AreRows (get sig_cmp m) (length old.cells.items) in
     subst Fit (sym size) (subst Are (sym rows) are)
 
-same_place : (j k : ℕ) → Changed j ≡ Changed k → j ≡ k
+pub same_place : (j k : ℕ) → Changed j ≡ Changed k → j ≡ k
 same_place j k e = ap (λ (c : Cell). let f : Cell → ℕ = elim [ Free ↦ 0 | Waiting ↦ 0 | Unseen ↦ 0 | Alone ↦ 0 | Changed p ↦ p ] in f c) e
 
 -- more origins behind those that are kept

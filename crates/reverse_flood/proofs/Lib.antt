@@ -11,3 +11,5 @@ pub mod WayFacts
 pub mod ToldFacts
 pub mod PartFacts
 pub mod Unique
+pub mod EntryFacts
+pub mod UnionFacts

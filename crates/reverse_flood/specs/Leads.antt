@@ -3,7 +3,7 @@ use Rattle.std.specs.Prelude.{◌≡◌, ◌⊎◌, ◌<◌, ℕ, Bool, true, fa
 use Rattle.std.specs.List.{Contains}
 use Rattle.spie_base.specs.declared.Sig.{Sig}
 use Rattle.spie_base.specs.declared.RouterId.{RouterId}
-use Rattle.topology.specs.Layout.{Layout}
+use Rattle.topology.specs.Layout.{Layout, is_linked}
 use Rattle.topology.specs.declared.limits.TheConstants.{ROUTERS_MOST}
 use Rattle.reverse_flood.specs.declared.graphs.Node.{Node}
 use Rattle.reverse_flood.specs.declared.cells.Search.{Search}
@@ -128,3 +128,18 @@ abbrev pub GoesOn : Net → (inside : ℕ → Bool) → (old new : Search) → (
 GoesOn net inside old new before after =
     (entries rest : List Node) → IsUnderWay net inside entries old (nodes_of before.home.items ++ (nodes_of before.away.items ++ rest))
     → IsUnderWay net inside entries new (nodes_of after.away.items ++ rest)
+
+-- each lead at home was so before, or is one of the pairs
+abbrev pub HomeFrom : (nodes : List Node) → (before after : List Lead) → Type 0
+HomeFrom nodes before after = (l : Lead) → Contains after l → Contains before l ⊎ Contains nodes l.node
+
+-- each pair that is named was so before, or is one of the pairs
+abbrev pub NamesThese : (nodes : List Node) → (old new : Search) → Type 0
+NamesThese nodes old new =
+    (n : Node) → n.router.number < ROUTERS_MOST → is_named new n ≡ true → (is_named old n ≡ true) ⊎ Contains nodes n
+
+-- further entries of a search: with whatever entries it began and whatever waits, it is under way from all of them
+abbrev pub Enters : Layout → (nodes : List Node) → (home : List Lead) → (old new : Search) → Type 0
+Enters layout nodes home old new =
+    (net : Net) (inside : ℕ → Bool) (entries waiting : List Node) → net.linked ≡ is_linked layout.links
+    → IsUnderWay net inside entries old waiting → IsUnderWay net inside (entries ++ nodes) new (nodes_of home ++ waiting)

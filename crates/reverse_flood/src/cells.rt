@@ -38,8 +38,8 @@ pub struct Search {
     pub(crate) changed: Vec<List<Sig>>,
 }
 
-/// No pair is named.
-pub(crate) fn no_names(alloc: Global) -> Search
+/// A search in which no pair is named.
+pub fn no_names(alloc: Global) -> Search
     ensures fine { IsFine result }
     ensures none { (n : Node) → is_named result n ≡ false }
 {
@@ -99,7 +99,7 @@ pub(crate) fn is_found(search: &Search, row: Option<usize>, node: &Node) -> bool
 }
 
 // Writes the cell of a pair.
-fn put_cell(search: &mut Search, row: usize, node: &Node, cell: Cell)
+pub(crate) fn put_cell(search: &mut Search, row: usize, node: &Node, cell: Cell)
     requires rows { AreRows (rows_in search.old) (length search.old.cells.items) }
     requires row { rows_in search.old node.now.sig ≡ Some row }
     requires few { node.now.router.number < ROUTERS_MOST }

@@ -2,7 +2,7 @@
 ghost use Rattle.std.specs.Prelude.{◌≡◌, ◌<◌, [], length, IfOk, OnOk};
 ghost use Rattle.std.specs.List.{Contains};
 ghost use Rattle.reverse_flood.specs.Flood.{net_of, everywhere, in_region, is_within, IsFlood, IsPart};
-ghost use Rattle.reverse_flood.specs.Leads.{AreLeads, GoesOn, HasBegun, KeepsNames, LeadsOut, NamesWithin};
+ghost use Rattle.reverse_flood.specs.Leads.{AreLeads, Enters, GoesOn, HasBegun, HomeFrom, KeepsNames, LeadsOut, NamesThese, NamesWithin};
 ghost use Rattle.reverse_flood.specs.Search.{IsFine, IsGraphOf};
 ghost use Rattle.reverse_flood.specs.declared.graphs.Node.{Node};
 
@@ -34,6 +34,30 @@ pub fn begin(
     let mut search = no_names(alloc);
     add_each(&mut search, leads, topology, entries)?;
     Ok(search)
+}
+
+/// Names further entries of a search, which may have named some of them before. Those that were not named are leads at
+/// home.
+pub fn enter(
+    topology: &Topology,
+    entries: &[Node],
+    search: &mut Search,
+    leads: &mut Leads,
+) -> Result<(), NoMemory>
+    requires exist { (n : Node) → Contains entries.now n → n.router.number < length topology.now.names }
+    requires fine { IsFine search.old }
+    requires home { leads.old.home.items ≡ [] }
+    ensures fine { OnOk result (IsFine search.new) }
+    ensures kept { OnOk result (KeepsNames search.old search.new) }
+    ensures home { OnOk result (AreLeads topology.now search.new leads.new.home.items) }
+    ensures away { OnOk result (leads.new.away.items ≡ leads.old.away.items) }
+    ensures from { OnOk result (HomeFrom entries.now [] leads.new.home.items) }
+    ensures only { OnOk result (NamesThese entries.now search.old search.new) }
+    ensures under_way { OnOk result (Enters topology.now entries.now leads.new.home.items search.old search.new) }
+{
+    topology_is_sound(topology);
+    add_each(search, leads, topology, entries)?;
+    Ok(())
 }
 
 /// Goes on with a search in one region: asks the leads at home, and the pairs of the region that are named by that. The

@@ -3,7 +3,7 @@ ghost use Rattle.std.specs.Prelude.{◌≡◌, ◌<◌, ◌≤◌, ◌∷◌, []
 ghost use Rattle.std.specs.List.{Contains, flat_map};
 ghost use Rattle.spie_base.specs.declared.RouterId.{RouterId};
 ghost use Rattle.reverse_flood.specs.Flood.{is_within};
-ghost use Rattle.reverse_flood.specs.Leads.{pairs_with, Names, PushesLead};
+ghost use Rattle.reverse_flood.specs.Leads.{pairs_with, HomeFrom, Names, PushesLead};
 ghost use Rattle.reverse_flood.specs.Rows.{KeepsRows};
 ghost use Rattle.reverse_flood.specs.Search.{cell_at, rows_in, IsFine};
 ghost use Rattle.reverse_flood.specs.declared.graphs.Node.{Node};
@@ -74,7 +74,8 @@ fn add_lead(
     requires row { rows_in search.old node.sig ≡ Some row }
     requires exists { node.router.number < length topology.now.names }
     requires few { length topology.now.names ≤ ROUTERS_MOST }
-    ensures { OnOk result (Names lane topology.now (node ∷ []) search.old search.new leads.old leads.new) }
+    ensures names { OnOk result (Names lane topology.now (node ∷ []) search.old search.new leads.old leads.new) }
+    ensures from { OnOk result (HomeFrom (node ∷ []) leads.old.home.items leads.new.home.items) }
 {
     if !name(search, row, &node) {
         return Ok(());
@@ -187,7 +188,8 @@ pub(crate) fn add_each(
     requires fine { IsFine search.old }
     requires exist { (n : Node) → Contains nodes.now n → n.router.number < length topology.now.names }
     requires few { length topology.now.names ≤ ROUTERS_MOST }
-    ensures { OnOk result (Names None topology.now nodes.now search.old search.new leads.old leads.new) }
+    ensures names { OnOk result (Names None topology.now nodes.now search.old search.new leads.old leads.new) }
+    ensures from { OnOk result (HomeFrom nodes.now leads.old.home.items leads.new.home.items) }
 {
     for node in nodes {
         let row = row_of(search, &node.sig)?;

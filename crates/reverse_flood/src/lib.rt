@@ -37,12 +37,13 @@
 //! `follow_in` asks leads and what they lead to within one region, and hands out the pairs of other regions as further
 //! leads, each once, since it is marked in its row; `graph_of` tells the graph when no lead is left. `specs/Search` says
 //! how far a search has come (`IsUnderWay`): the entries are named, what is named belongs to the flood, and what doesn't
-//! wait is settled. So the order in which leads are followed changes nothing.
+//! wait is settled. So the order in which leads are followed changes nothing. `enter` names further entries of a search.
+//! Several searches, each of which asked the routers of one region, are made one by `take_up`, region by region.
 //!
 //! # Reading order
 //!
 //! `specs/Flood`, `graphs` and `floods`; then `specs/Search`, `cells`, `leads` and `asks` for the search; `ways` and `tells`
-//! for what is told of it.
+//! for what is told of it; `specs/Unions` and `unions` for searches that are made one.
 #![tactic(auto)]
 
 mod asks;
@@ -53,10 +54,12 @@ mod laws;
 mod leads;
 mod steps;
 mod tells;
+mod unions;
 mod ways;
 
-pub use cells::Search;
-pub use floods::{begin, flood, flood_within, follow_in, graph_of};
+pub use cells::{Search, no_names};
+pub use floods::{begin, enter, flood, flood_within, follow_in, graph_of};
 pub use graphs::{Edge, Graph, Node, Part};
 pub use laws::{one_flood, one_part};
 pub use leads::{Lead, Leads};
+pub use unions::take_up;

@@ -163,7 +163,10 @@ fn tell_router<S: Sighting>(
 }
 
 /// The signatures in ascending order, each with the beginning of its row.
-fn lines_of(alloc: Global, rows: &BTreeMap<Sig, usize>) -> Result<Vec<(Sig, usize)>, NoMemory>
+pub(crate) fn lines_of(
+    alloc: Global,
+    rows: &BTreeMap<Sig, usize>,
+) -> Result<Vec<(Sig, usize)>, NoMemory>
     ensures lines { IfOk result (λ lines. lines.items ≡ rows.now.entries) }
     ensures ordered { OnOk result (IsOrdered sig_cmp rows.now) }
 {

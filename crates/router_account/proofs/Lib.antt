@@ -1,2 +1,4 @@
+mod Examples
+pub mod LaterReads
 pub mod PageSets
 pub mod Shuffled

@@ -1,15 +1,15 @@
 -- What is known of one router: what was recorded in its pages, its transforms, and when its pages closed.
 use Rattle.std.specs.Prelude.{ℕ, ◌+◌, List, [], ◌∷◌, ◌++◌, filter, map, length, Bool, ◌==◌, if◌then◌else◌}
-use Rattle.std.specs.List.{list_any, flat_map, range_with_len}
+use Rattle.std.specs.List.{range_with_len}
 use Rattle.spie_base.specs.Shapes.{shape_of}
 use Rattle.spie_base.specs.declared.Entry.{Entry}
 use Rattle.spie_base.specs.declared.Rules.{Rules}
 use Rattle.spie_base.specs.declared.Sig.{Sig}
 use Rattle.hash_family.specs.Entries.{is_marked}
 use Rattle.hash_family.specs.Positions.{marks_of}
-use Rattle.bloom_page.specs.Sets.{PageSet, are_in, set_of}
+use Rattle.bloom_page.specs.Sets.{PageSet, set_of}
 use Rattle.packet_signature.specs.declared.Row.{Row}
-use Rattle.packet_signature.specs.Row.{key_of, inverse_of}
+use Rattle.used_pages.specs.UsedPages.{Held, UsedPage, is_hit, origins_of}
 use Rattle.page_catalogue.specs.Pages.{open_page, is_due, is_in_window}
 
 -- a transform, and the page in which its packet was recorded
@@ -49,11 +49,6 @@ fill rules a page = length (bits rules a page)
 unfoldable pub rows_in : List RowIn → (page : ℕ) → List Row
 rows_in rows page = map (λ entry. entry.row) (filter (λ entry. entry.page == page) rows)
 
--- positions, ascending, and transforms
-pub record Held : Type 0 where
-  pub bits : List ℕ
-  pub rows : List Row
-
 abbrev pub held : Rules → Account → (page : ℕ) → Held
 held rules a page = record { bits = bits rules a page; rows = rows_in a.rows page }
 
@@ -69,31 +64,19 @@ window rules a time = filter (is_in_window rules a.closings time) (below (open_p
 
 -- ---- what a query sees
 
--- a page that a query uses, with what it holds
-pub record UsedPage : Type 0 where
-  pub number : ℕ
-  pub held : Held
-
 -- what a query sees of a router: the pages that it uses, and whether a page of its window is missing
 pub record Sight : Type 0 where
   pub router : ℕ
   pub used : List UsedPage
   pub missing : Bool
 
--- whether a page has all marks of a signature
-abbrev pub holds_sig : Rules → (router : ℕ) → Sig → UsedPage → Bool
-holds_sig rules router sig page = are_in page.held.bits (marks rules router page.number sig)
-
+-- whether one of the pages has all marks of a signature
 abbrev pub hit : Rules → Sight → Sig → Bool
-hit rules sight sig = list_any (holds_sig rules sight.router sig) sight.used
-
--- what the rows of a page say that a signature was before
-abbrev pub undone : Sig → UsedPage → List Sig
-undone sig page = map (λ row. inverse_of row sig) (filter (λ row. row.key == key_of sig) page.held.rows)
+hit rules sight sig = is_hit (shape_of rules sight.router) sight.used sig
 
 -- the signatures that a packet may have had before this router
 abbrev pub origins : Sight → Sig → List Sig
-origins sight sig = sig ∷ flat_map (undone sig) sight.used
+origins sight sig = origins_of sight.used sig
 
 -- ---- an account after one thing more
 

@@ -1,6 +1,7 @@
 pub mod Account
 pub mod Barriers
 pub mod Ledger
+pub mod Readings
 pub mod Records
 pub mod Shelves
 pub mod Sights

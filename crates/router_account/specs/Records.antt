@@ -7,7 +7,7 @@ use Rattle.spie_base.specs.declared.Rules.{Rules}
 use Rattle.hash_family.specs.Positions.{page_seed_of}
 use Rattle.packet_signature.specs.declared.Row.{Row}
 use Rattle.page_catalogue.specs.Pages.{opened, closed}
-use Rattle.archive_record.specs.Spelling.{bits_record, rows_record, spelled_bits, spelled_rows, AreBits, AreRows, ArePlainBits, ArePlainRows}
+use Rattle.archive_record.specs.Spelling.{bits_record, rows_record, spelled_bits, spelled_rows, AreBits, AreBytes, AreRows, ArePlainBits, ArePlainRows}
 use Rattle.archive_record.specs.declared.BitsHead.{BitsHead}
 use Rattle.archive_record.specs.declared.BitsRecord.{BitsRecord}
 use Rattle.archive_record.specs.declared.RowsRecord.{RowsRecord}
@@ -105,8 +105,8 @@ abbrev pub AreTold : Rules → Account → (page : ℕ) → ShelfView → Type 0
 AreTold rules a page view = (view.tells ≡ true) × ((part : ShelfPart) → view.contents (name_of a.router page part) ≡ Some (true_text rules a page part))
 
 -- when a page may be unreadable for a cause, by the shelf before and after it was asked: its count of faults rose; the
--- bytes have another digest than those that were put; nothing is there; other bytes with the digest are there. Nothing
--- but a fault comes where the shelf tells both true records.
+-- bytes have another digest than those that were put; nothing is there; other bytes with the digest are there, each
+-- below 256. Nothing but a fault comes where the shelf tells both true records.
 abbrev pub IsCause : Rules → Account → (page : ℕ) → (before after : ShelfView) → Cause → Type 0
 IsCause rules a page before after Failed = Rose before.faults after.faults
 IsCause rules a page before after (Other kept found) =
@@ -114,5 +114,5 @@ IsCause rules a page before after (Other kept found) =
 IsCause rules a page before after Absent =
     ((part : ShelfPart) × (before.tells ≡ true → before.contents (name_of a.router page part) ≡ None)) × (AreTold rules a page before → ⊥)
 IsCause rules a page before after Broken =
-    ((part : ShelfPart) × (bytes : List ℕ) × (sha256 bytes ≡ sha256 (true_text rules a page part)) × (bytes ≡ true_text rules a page part → ⊥))
+    ((part : ShelfPart) × (bytes : List ℕ) × AreBytes bytes × (sha256 bytes ≡ sha256 (true_text rules a page part)) × (bytes ≡ true_text rules a page part → ⊥))
     × (AreTold rules a page before → ⊥)

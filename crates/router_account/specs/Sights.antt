@@ -10,7 +10,8 @@ use Rattle.spie_base.specs.declared.Rules.{Rules}
 use Rattle.router_account.specs.declared.words.Cause.{Cause}
 use Rattle.router_account.specs.declared.words.Cause.TheVariants.{Failed, Other, Absent, Broken}
 use Rattle.router_account.specs.declared.words.Unreadable.{Unreadable}
-use Rattle.router_account.specs.Account.{Held, held, UsedPage, Sight}
+use Rattle.used_pages.specs.UsedPages.{Held, UsedPage}
+use Rattle.router_account.specs.Account.{held, Sight}
 use Rattle.router_account.specs.Ledger.{Ledger, was_expired}
 
 -- a page that could not be read from the shelf

@@ -26,7 +26,7 @@ pub cause_of_bits : (rules : Rules) (a : Account) (page : ℕ) (x y : ShelfView)
 cause_of_bits rules a page x y Failed h = h
 cause_of_bits rules a page x y (Other kept found) h = ((Bits, h.0), h.1, λ told. h.2 (told.0, told.1 Bits))
 cause_of_bits rules a page x y Absent h = ((Bits, h.0), λ told. h.1 (told.0, told.1 Bits))
-cause_of_bits rules a page x y Broken h = ((Bits, h.0.0, h.0.1, h.0.2), λ told. h.1 (told.0, told.1 Bits))
+cause_of_bits rules a page x y Broken h = ((Bits, h.0.0, h.0.1, h.0.2, h.0.3), λ told. h.1 (told.0, told.1 Bits))
 
 -- what was told before a get is told after it
 told_still : (name : ShelfName) (text : List ℕ) (x y : ShelfView) → Gets x y → x.tells ≡ true → x.contents name ≡ Some text → IsTold name text y
@@ -39,7 +39,7 @@ pub cause_of_rows : (rules : Rules) (a : Account) (page : ℕ) (x y z : ShelfVie
 cause_of_rows rules a page x y z Failed g h = let p : x.faults ≤ y.faults = g.later in let q : Rose y.faults z.faults = h in omega arith
 cause_of_rows rules a page x y z (Other kept found) g h = ((Rows, h.0), h.1, λ told. h.2 (told_still (name_of a.router page Rows) (rows_true a page) x y g told.0 (told.1 Rows)))
 cause_of_rows rules a page x y z Absent g h = ((Rows, λ t. sym (g.same t (name_of a.router page Rows)) ∙ h.0 (g.still ∙ t)), λ told. h.1 (told_still (name_of a.router page Rows) (rows_true a page) x y g told.0 (told.1 Rows)))
-cause_of_rows rules a page x y z Broken g h = ((Rows, h.0.0, h.0.1, h.0.2), λ told. h.1 (told_still (name_of a.router page Rows) (rows_true a page) x y g told.0 (told.1 Rows)))
+cause_of_rows rules a page x y z Broken g h = ((Rows, h.0.0, h.0.1, h.0.2, h.0.3), λ told. h.1 (told_still (name_of a.router page Rows) (rows_true a page) x y g told.0 (told.1 Rows)))
 
 pub true_back : (rules : Rules) (a : Account) (page : ℕ) (c : Content) (x y z : ShelfView) → Gets x y → IsBitsBack rules a page x y (GotBits c.bits) → IsRowsBack a page y z (GotRows c.rows)
     → IsGot rules a page c × (AreTold rules a page x → IsTrue rules a page c)

@@ -1,11 +1,12 @@
 -- The greatest lengths of records.
-use Rattle.std.proofs.Common.{ℕ, suc, ◌≡◌, ◌≤◌, ◌<◌, ◌+◌, ◌-◌, ◌*◌, ◌^◌, List, [], ◌∷◌, ◌++◌, length, refl, sym, ◌∙◌, subst, arith, inl, inr}
+use Rattle.std.proofs.Common.{ℕ, suc, ◌≡◌, ◌≤◌, ◌+◌, ◌-◌, ◌*◌, ◌^◌, List, [], ◌∷◌, ◌++◌, length, refl, ◌∙◌, arith}
 use Rattle.std.specs.List.{All, flat_map}
 use Rattle.std.specs.Int.{w32, w64, to_be_bytes}
-use Rattle.std.proofs.lemmas.Bool.{cases_lt}
 use Rattle.std.proofs.lemmas.List.{length-append}
 use Rattle.std.proofs.lemmas.List.Elements.{All-head, All-tail}
-use Rattle.std.proofs.Math.Pow.{pow-lt}
+use Rattle.std.proofs.Math.Pow.{pow_mono}
+use Rattle.spie_base.specs.Shapes.{most_words}
+use Rattle.spie_base.specs.declared.types.TheConstants.{N_LEAST, N_MOST}
 use Rattle.bloom_page.specs.Sets.{words_of}
 use Rattle.bloom_page.proofs.WordFacts.{length-words_of}
 use Rattle.packet_signature.specs.declared.Row.{Row}
@@ -54,22 +55,16 @@ short_rows r plain few =
     let x = four (length r.rows) in let y = four r.page.number in let z = four r.router.number in
     omega arith
 
-small_pow : (n : ℕ) → n ≤ 16 → 2 ^ (n - 6) ≤ 1024
-small_pow n le = elim (cases_lt n 16) [
-  | inl lt ↦ elim (cases_lt (n - 6) 10) [
-    | inl less ↦ let p : 2 ^ (n - 6) < 2 ^ 10 = pow-lt less in omega arith
-    | inr ge ↦ absurd (omega arith)
-  ]
-  | inr ge ↦ let e : n ≡ 16 = omega arith in subst (λ k. 2 ^ (k - 6) ≤ 1024) (sym e) (omega arith)
-]
+few_words : (n : ℕ) → n ≤ N_MOST → 2 ^ (n - N_LEAST) ≤ most_words
+few_words n le = let few : n - N_LEAST ≤ N_MOST - N_LEAST = omega arith in pow_mono few
 
-pub short_bits : (r : BitsRecord) → r.bits.n ≤ 16 → length (spelled_bits r) ≤ 8232
+pub short_bits : (r : BitsRecord) → r.bits.n ≤ N_MOST → length (spelled_bits r) ≤ 40 + 8 * most_words
 unfolding spelled_bits
 short_bits r high =
     let words = words_of r.bits in
     let w = words_length words in
-    let n : length words ≡ 2 ^ (r.bits.n - 6) = length-words_of r.bits in
-    let p = small_pow r.bits.n high in
+    let n : length words ≡ 2 ^ (r.bits.n - N_LEAST) = length-words_of r.bits in
+    let p = few_words r.bits.n high in
     let tail = flat_map (to_be_bytes w64) words in
     let a = length-append (to_be_bytes w64 r.closed) tail in
     let b = length-append (to_be_bytes w64 r.opened) (to_be_bytes w64 r.closed ++ tail) in

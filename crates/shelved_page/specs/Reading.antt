@@ -9,7 +9,7 @@ use Rattle.archive_record.specs.declared.Record.{Record}
 use Rattle.archive_record.specs.declared.Record.TheVariants as record_of
 use Rattle.archive_record.specs.declared.BitsRecord.{BitsRecord}
 use Rattle.archive_record.specs.declared.RowsRecord.{RowsRecord}
-use Rattle.archive_record.specs.Spelling.{Fits, IsPlain, AreBits, AreRows, ArePlainBits, ArePlainRows, spelled, spelled_bits, spelled_rows}
+use Rattle.archive_record.specs.Spelling.{Fits, IsPlain, AreBits, AreBytes, AreRows, ArePlainBits, ArePlainRows, spelled, spelled_bits, spelled_rows}
 use Rattle.page_shelf.specs.Shelves.{IsSame}
 use Rattle.page_shelf.specs.declared.ShelfName.{ShelfName}
 use Rattle.page_shelf.specs.declared.ShelfPart.TheVariants.{Bits, Rows}
@@ -68,20 +68,20 @@ abbrev pub IsLost : ShelfName → (text : List ℕ) → (before after : ShelfVie
 IsLost name text before after Failed = Rose before.faults after.faults
 IsLost name text before after (Other kept found) = (kept ≡ sha256 text) × (found ≡ kept → ⊥) × (IsTold name text before → ⊥)
 IsLost name text before after Absent = (before.tells ≡ true → before.contents name ≡ None) × (IsTold name text before → ⊥)
-IsLost name text before after Broken = ((bytes : List ℕ) × (sha256 bytes ≡ sha256 text) × (bytes ≡ text → ⊥)) × (IsTold name text before → ⊥)
+IsLost name text before after Broken = ((bytes : List ℕ) × AreBytes bytes × (sha256 bytes ≡ sha256 text) × (bytes ≡ text → ⊥)) × (IsTold name text before → ⊥)
 
 -- a record with the kept digest was got, and where its bytes are those that were put, that which was put
 abbrev pub IsFetched : ShelfName → Record → (before after : ShelfView) → Fetched → Type 0
-IsFetched name value before after (Found v) = Fits v × IsPlain v × (sha256 (spelled v) ≡ sha256 (spelled value)) × (spelled v ≡ spelled value → v ≡ value) × (IsTold name (spelled value) before → v ≡ value)
+IsFetched name value before after (Found v) = Fits v × IsPlain v × AreBytes (spelled v) × (sha256 (spelled v) ≡ sha256 (spelled value)) × (spelled v ≡ spelled value → v ≡ value) × (IsTold name (spelled value) before → v ≡ value)
 IsFetched name value before after (Lost cause) = IsLost name (spelled value) before after cause
 
 -- bytes that a get handed out, against the record whose digest was kept
 abbrev pub IsJudged : Record → (bytes : List ℕ) → Fetched → Type 0
-IsJudged value bytes (Found v) = Fits v × IsPlain v × (sha256 (spelled v) ≡ sha256 (spelled value)) × (spelled v ≡ spelled value → v ≡ value) × (bytes ≡ spelled value → v ≡ value)
+IsJudged value bytes (Found v) = Fits v × IsPlain v × AreBytes (spelled v) × (sha256 (spelled v) ≡ sha256 (spelled value)) × (spelled v ≡ spelled value → v ≡ value) × (bytes ≡ spelled value → v ≡ value)
 IsJudged value bytes (Lost Failed) = ⊥
 IsJudged value bytes (Lost (Other kept found)) = (kept ≡ sha256 (spelled value)) × (found ≡ kept → ⊥) × (bytes ≡ spelled value → ⊥)
 IsJudged value bytes (Lost Absent) = ⊥
-IsJudged value bytes (Lost Broken) = (sha256 bytes ≡ sha256 (spelled value)) × (bytes ≡ spelled value → ⊥)
+IsJudged value bytes (Lost Broken) = AreBytes bytes × (sha256 bytes ≡ sha256 (spelled value)) × (bytes ≡ spelled value → ⊥)
 
 -- ---- a page
 

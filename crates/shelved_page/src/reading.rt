@@ -18,11 +18,11 @@ use packet_signature::Row;
 use page_shelf::{Shelf, ShelfName, ShelfPart, ShelfRefused};
 use router_account::Cause;
 use sha2::{Digest, Sha256};
-use spie_base::{List, NoMemory, PageNo, RouterId};
+use spie_base::{List, N_LEAST, N_MOST, NoMemory, PageNo, RouterId};
 use std::alloc::Global;
 
-// The greatest records: 40 bytes and 2^16 bits; 16 bytes and a million rows.
-const MOST_BITS: usize = 8232;
+// The greatest records: 40 bytes and the words of the greatest page; 16 bytes and a million rows.
+const MOST_BITS: usize = 40 + 8 * (1 << (N_MOST - N_LEAST));
 
 const MOST_ROWS: usize = 38_000_016;
 

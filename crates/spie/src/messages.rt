@@ -18,7 +18,7 @@ const REFUSALS: [(&str, &str); 22] = [
     ("length", "the line has more than 4,096 bytes"),
     (
         "word",
-        "the line does not begin with a word that may stand here",
+        "no word that may stand here (the first field of a line, the second of a script's step)",
     ),
     (
         "fields",
@@ -72,6 +72,8 @@ fn refusal(rt: &HostRuntime, front: &[u8]) -> std::io::Result<()> {
     let line = text.trim_end();
     let rest = line.strip_prefix("refused ").unwrap_or(line);
     match rest.split_once(' ') {
+        // Line 0 is the whole input.
+        Some((number, why)) if number == "0" => eprintln!(rt; "spie: {}", sentence(why)),
         Some((number, why)) => eprintln!(rt; "spie: line {number}: {}", sentence(why)),
         None => eprintln!(rt; "spie: the input is refused"),
     }

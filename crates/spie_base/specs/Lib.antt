@@ -1,3 +1,4 @@
+pub mod Ascending
 pub mod Causes
 pub mod Decimal
 pub mod Memory

@@ -1,5 +1,5 @@
 -- The numbers that fix the positions of a router's signatures.
-use Rattle.std.specs.Prelude.{ℕ, ◌≤◌}
+use Rattle.std.specs.Prelude.{ℕ, ◌≤◌, ◌-◌, ◌^◌}
 use Rattle.spie_base.specs.declared.types.PageShape.{PageShape}
 use Rattle.spie_base.specs.declared.types.Rules.{Rules}
 use Rattle.spie_base.specs.declared.types.TheConstants.{K_MOST, N_LEAST, N_MOST}
@@ -10,6 +10,10 @@ pub record AreInRange (k n : ℕ) : Type 0 where
   pub k_most : k ≤ K_MOST
   pub n_least : N_LEAST ≤ n
   pub n_most : n ≤ N_MOST
+
+-- how many words of 64 bits the greatest page has
+abbrev pub most_words : ℕ
+most_words = 2 ^ (N_MOST - N_LEAST)
 
 -- k and n in their ranges
 abbrev pub IsShape : PageShape → Type 0

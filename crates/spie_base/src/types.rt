@@ -6,7 +6,7 @@ pub const K_MOST: u8 = 8;
 /// The least number of bits of a position. The smallest page has 2^6 of them, one word.
 pub const N_LEAST: u8 = 6;
 
-/// The greatest number of bits of a position. The greatest page has 2^16 of them, 8 KiB.
+/// The greatest number of bits of a position. The greatest page has 2^20 of them, 128 KiB.
 pub const N_MOST: u8 = 20;
 
 /// The signature of a packet: the header bytes that no router changes on the way, and eight

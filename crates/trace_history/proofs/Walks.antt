@@ -5,6 +5,7 @@ use Rattle.std.specs.List.{Contains, flat_map}
 use Rattle.std.proofs.lemmas.Bool.{false≢true, eq-eqb}
 use Rattle.std.proofs.lemmas.Bool.Decides.{Decides-eqb}
 use Rattle.spie_base.proofs.Membership.{has_first, has_later, into_map, into_filter, into_flat_map}
+use Rattle.spie_base.specs.Shapes.{shape_of}
 use Rattle.spie_base.specs.declared.Rules.{Rules}
 use Rattle.spie_base.specs.declared.Sig.{Sig}
 use Rattle.bloom_page.specs.Sets.{are_in}
@@ -18,7 +19,8 @@ use Rattle.reverse_flood.specs.declared.Graph.{Graph}
 use Rattle.reverse_flood.specs.Flood.{Net, IsHit, IsStep, IsNode, IsAsked, IsFlood, everywhere}
 use Rattle.reverse_flood.specs.Found.{edge_from}
 use Rattle.reverse_flood.proofs.Worklists.{node_from_asked}
-use Rattle.router_account.specs.Account.{Account, Held, held, UsedPage, Sight, marks, holds_sig, origins, undone}
+use Rattle.used_pages.specs.UsedPages.{Held, UsedPage, holds_sig, undone}
+use Rattle.router_account.specs.Account.{Account, held, Sight, marks, origins}
 use Rattle.router_account.specs.Sights.{GotPage, got_or, page_by}
 use Rattle.trace_history.specs.History.{History, Origin, same, changed, QueryRun, account}
 use Rattle.trace_history.specs.Laws.{RoutesAreFound, NeverANo}
@@ -69,7 +71,7 @@ module _ (routers : ℕ) (rules : RouterRules) (layout : Layout) (history : Hist
       let shows : are_in (held (rules r) (own x) x.page).bits (marks (rules r) (own x).router x.page x.hop.sig) ≡ true =
       entry_shows (rules r) (own x) x.page x.hop.sig (kept rules history x is.recorded).entry in
       let Q : Held → Type 0 = λ h. are_in h.bits (marks (rules r) (own x).router x.page x.hop.sig) ≡ true in
-      any_true (holds_sig (rules r) (own x).router x.hop.sig) (seen x).used (there x) (page_seen x used)
+      any_true (holds_sig (shape_of (rules r) (own x).router) x.hop.sig) (seen x).used (there x) (page_seen x used)
       (subst Q (sym (held_is x is.exists)) shows)
 
   -- what came to a hop that changed a packet is among the origins of what it recorded

@@ -91,8 +91,8 @@ gathered_alone rules r history none =
     gathered_so_far rules r history ∙ ap (λ (seg : History). gathered 1 r history ++ flat_map (entry_by r) (receipts seg)) none ∙ append-nil (gathered 1 r history)
 
 -- pages of this shape with these entries
-abbrev pub pages_view : PageShape → List Entry → YardView
-pages_view shape entries = record { shape = shape; entries = entries }
+abbrev pub pages_view : PageShape → List Entry → (out : ℕ) → YardView
+pages_view shape entries out = record { shape = shape; entries = entries; out = out }
 
 pub one_worker_gathers : OneWorkerGathers
 one_worker_gathers rules r history none = sym (gathered_alone rules r history none)

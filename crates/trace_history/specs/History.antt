@@ -12,6 +12,7 @@ use Rattle.trace_format.specs.declared.What.{What}
 use Rattle.trace_format.specs.declared.What.TheVariants.{Fwd, Xf, Rotate, Archive, Watch, Tick, Query, End}
 use Rattle.router_account.specs.declared.Watch.{Watch as WatchAnswer}
 use Rattle.router_account.specs.Account.{Account, RowIn, first_account, with_closing, after_tick}
+use Rattle.router_account.specs.Shelves.{ShelfView}
 use Rattle.router_account.specs.Sights.{Reading}
 use Rattle.trace_history.specs.Routers.{RouterRules}
 
@@ -26,12 +27,15 @@ pub record Hop : Type 0 where
   pub sig : Sig
   pub origin : Origin
 
--- a query: where it starts, for what time, and what was read of each router's shelved pages
+-- a query: where it starts, for what time, what was read of each router's shelved pages, and the shelf before and after
+-- they were read
 pub record QueryRun : Type 0 where
   pub router : ℕ
   pub sig : Sig
   pub time : ℕ
   pub reads : (router : ℕ) → Reading
+  pub shelf_before : ShelfView
+  pub shelf_after : ShelfView
 
 -- what a line asked for, and what it was answered: the page that a record entered or that a rotation opened,
 -- the pages that an archival put and kept, a watch's answer, and the expired pages of each router that a barrier

@@ -1,9 +1,11 @@
 -- What the shelf may have done: which pages an archival put or kept, which a barrier left behind, and which a
 -- query could not read or read back. All is said of so many routers, those of the trace.
-use Rattle.std.specs.Prelude.{ℕ, ◌+◌, ◌<◌, List, [], ◌∷◌, length}
+use Rattle.std.specs.Prelude.{ℕ, ◌+◌, ◌<◌, ◌≤◌, ◌≡◌, List, [], ◌∷◌, length}
 use Rattle.spie_base.specs.Causes.{RoseBy}
 use Rattle.router_account.specs.Barriers.{IsSplit, AreLeft, archive_view}
+use Rattle.router_account.specs.Readings.{IsReadFrom}
 use Rattle.router_account.specs.Records.{HaveDigests, AreTrue, AllFailed}
+use Rattle.router_account.specs.Shelves.{ShelfView}
 use Rattle.router_account.specs.Sights.{IsRead, failures}
 use Rattle.trace_history.specs.History.{Event, archived, ticked, queried, ended, History, QueryRun, account}
 use Rattle.trace_history.specs.Ledgers.{ledger, puts}
@@ -51,6 +53,12 @@ EachQuery P (moment ∷ history) = EachQuery P history × IfQuery P (moment ∷ 
 abbrev pub HasSameDigests : (routers : ℕ) → RouterRules → (after : History) → QueryRun → Type 0
 HasSameDigests routers rules after query = (r : ℕ) → r < routers → HaveDigests (rules r) (account rules r after) (query.reads r)
 
+-- what could not be read, and what was read, is as the shelf was when the query read it
+abbrev pub IsReadQuery : (routers : ℕ) → RouterRules → (after : History) → QueryRun → Type 0
+IsReadQuery routers rules after query =
+    (r : ℕ) → r < routers
+    → IsReadFrom (rules r) (account rules r after) query.shelf_before query.shelf_after (query.reads r)
+
 -- what was read is what was recorded
 abbrev pub IsTrueQuery : (routers : ℕ) → RouterRules → (after : History) → QueryRun → Type 0
 IsTrueQuery routers rules after query = (r : ℕ) → r < routers → AreTrue (rules r) (account rules r after) (query.reads r)
@@ -60,6 +68,16 @@ abbrev pub HasOnlyFaults : (routers : ℕ) → (after : History) → QueryRun �
 HasOnlyFaults routers after query = (r : ℕ) → r < routers → AllFailed (query.reads r)
 
 -- ---- faults
+
+-- a query read the shelf between two times, and for each page that failed a call of its own failed meanwhile
+pub record IsReadDuring (routers : ℕ) (start now : ShelfView) (query : QueryRun) : Type 0 where
+  pub still : query.shelf_before.tells ≡ start.tells
+  pub from : start.faults ≤ query.shelf_before.faults
+  pub paid : RoseBy (sum_over routers (λ r. failures (query.reads r))) query.shelf_before.faults query.shelf_after.faults
+  pub to : query.shelf_after.faults ≤ now.faults
+
+abbrev pub AreReadDuring : (routers : ℕ) → (start now : ShelfView) → History → Type 0
+AreReadDuring routers start now history = EachQuery (λ after query. IsReadDuring routers start now query) history
 
 -- the kept pages, left pages and failed pages of a line: for each a call of the shelf failed
 abbrev pub fault_marks_by : (routers : ℕ) → Event → ℕ
@@ -76,3 +94,23 @@ fault_marks routers (moment ∷ history) = fault_marks routers history + fault_m
 -- each mark has a failed call of its own
 abbrev pub ArePaid : (routers : ℕ) → History → (before now : ℕ) → Type 0
 ArePaid routers history before now = RoseBy (fault_marks routers history) before now
+
+-- no router has a page that was left
+abbrev pub AreNoneLeft : (routers : ℕ) → (left : ℕ → List ℕ) → Type 0
+AreNoneLeft routers left = (r : ℕ) → r < routers → left r ≡ []
+
+-- no page was kept or left at a line, nor was one unreadable for a fault of the shelf
+abbrev pub IsFaultless : (routers : ℕ) → Event → Type 0
+IsFaultless routers (archived r put kept) = kept ≡ []
+IsFaultless routers (ticked time left) = AreNoneLeft routers left
+IsFaultless routers (queried query left) = AreNoneLeft routers left × ((r : ℕ) → r < routers → failures (query.reads r) ≡ 0)
+IsFaultless routers (ended left) = AreNoneLeft routers left
+IsFaultless routers _ = Unit {0}
+
+abbrev pub AreFaultless : (routers : ℕ) → History → Type 0
+AreFaultless routers [] = Unit {0}
+AreFaultless routers (moment ∷ history) = AreFaultless routers history × IsFaultless routers moment.event
+
+-- no page of a query was unreadable
+abbrev pub HasNoneUnread : (routers : ℕ) → (after : History) → QueryRun → Type 0
+HasNoneUnread routers after query = (r : ℕ) → r < routers → (query.reads r).unread ≡ []

@@ -32,15 +32,17 @@ abbrev pub gathered : (W router : ℕ) → History → List Entry
 gathered W r [] = []
 gathered W r (moment ∷ history) = gathered W r history ++ (if is_barrier moment.event then worked W r (segment history) else [])
 
--- a router's pages as a replay leaves them: their shape, and the entries in the order in which they were gathered
+-- a router's pages as a replay leaves them: their shape, the entries in the order in which they were gathered, and how many
+-- passes are out
 pub record YardView : Type 0 where
   pub shape : PageShape
   pub entries : List Entry
+  pub out : ℕ
 
--- a yard has one of them for each router of the trace, and no other
+-- a yard has one of them for each router of the trace, and no other; no pass is out
 pub record IsYardOf (W : ℕ) (t : Trace) (history : History) (yard : List YardView) : Type 0 where
   pub size : length yard ≡ count t
-  pub each : (r : ℕ) → r < count t → slice_get yard r ≡ Some (record { shape = shape_of (rules_of t r) r; entries = gathered W r history })
+  pub each : (r : ℕ) → r < count t → slice_get yard r ≡ Some (record { shape = shape_of (rules_of t r) r; entries = gathered W r history; out = 0 })
 
 -- one worker does the lines one after another; with several each watch is answered between its segment's start and end
 abbrev pub AreAnswered : (alone : Bool) → RouterRules → History → Type 0

@@ -26,6 +26,7 @@ use Rattle.trace_format.specs.Sound.{IsWithin, FitsClock}
 use Rattle.router_account.specs.declared.Unreadable.{Unreadable}
 use Rattle.router_account.specs.Account.{Sight, hit, origins, window}
 use Rattle.router_account.specs.Ledger.{Ledger, nothing_unfinished, no_split}
+use Rattle.router_account.specs.Readings.{IsReadFrom}
 use Rattle.router_account.specs.Records.{HaveDigests, AreTrue, AllFailed}
 use Rattle.router_account.specs.Shelves.{ShelfView}
 use Rattle.router_account.specs.Sights.{Reading, UnreadPage, IsRead, sight_by, used_by, expired_by, page_no, range_of, unreadable_of, failures, no_reading}
@@ -34,7 +35,7 @@ use Rattle.data_agent.specs.Calls.{Told}
 use Rattle.trace_history.specs.declared.Totals.{Totals}
 use Rattle.trace_history.specs.History.{Event, queried, History, QueryRun, IsEventOf, IsHistoryOf, clock}
 use Rattle.trace_history.specs.Ledgers.{ledger}
-use Rattle.trace_history.specs.Outcomes.{AreAllRead, HasSameDigests, IsTrueQuery, HasOnlyFaults, fault_marks, fault_marks_by}
+use Rattle.trace_history.specs.Outcomes.{AreAllRead, HasSameDigests, IsReadQuery, IsReadDuring, IsTrueQuery, HasOnlyFaults, fault_marks, fault_marks_by}
 use Rattle.trace_history.specs.Report.{AreItems, text_of, totals_of, no_totals, with_answer, pages_item, graph_items, answer_item, left_items, bad_of}
 use Rattle.trace_history.specs.Routers.{count, rules_of, routers, sum_over}
 use Rattle.trace_history.specs.Sights.{sight_at, net_at}
@@ -131,7 +132,7 @@ module _ {A S : Type 0} (way : Way A) (stands : Standing A) (shown : S → Shown
 
   module _ (line : Line) (router : RouterId) (packet : ℕ) (sig : Sig) (is : line.what ≡ what.Query router packet time) (known : slice_get t.sigs packet ≡ Some sig) where
     abbrev query : QueryRun
-    query = record { router = router.number; sig = sig; time = time; reads = reads }
+    query = record { router = router.number; sig = sig; time = time; reads = reads; shelf_before = mid; shelf_after = now }
 
     abbrev event : Event
     event = queried query (lefts_of barriers)
@@ -158,6 +159,13 @@ module _ {A S : Type 0} (way : Way A) (stands : Standing A) (shown : S → Shown
         let P : Ledger → Type 0 = λ x. HaveDigests (rules_of t r) x.account (reads r) in
         let Q : Reading → Type 0 = λ x. HaveDigests (rules_of t r) (behind r).account x in
         subst P (sym (link r l)) (subst Q (sym (reads_is r l)) (seen r l).digests)
+
+    read_from : IsReadQuery (count t) (rules_of t) G query
+    read_from r l =
+        let P : Ledger → Type 0 = λ x. IsReadFrom (rules_of t r) x.account mid now (reads r) in
+        let Q : Reading → Type 0 = λ x. IsReadFrom (rules_of t r) (behind r).account mid now x in
+        subst P (sym (link r l)) (subst Q (sym (reads_is r l))
+        (sees.read (rules_of t) behind (λ q. nothing_unfinished) stand_after r (some_of sights r (in_sights r l)) (in_after r l)))
 
     -- the shelf still holds the records when the query reads them
     held_mid : start.tells ≡ true → AllHold (length after) (rules_of t) mid.contents behind
@@ -211,15 +219,25 @@ module _ {A S : Type 0} (way : Way A) (stands : Standing A) (shown : S → Shown
         (rose_add (fault_marks n F + lefts) lost start.faults mid.faults now.faults (barrier_paid way stands t start history seg agents after s was mid old s.clock false barriers all) (subst P count_after sees.paid))
         (omega arith)
 
+    during : IsReadDuring (count t) start now query
+    during =
+        let P : ℕ → Type 0 = λ k. RoseBy (sum_over k (λ r. failures (reading_at told sights r))) mid.faults now.faults in
+        record {
+          still = all.still ∙ old.shelf.still;
+          from = let a = old.shelf.later in let b = all.later in omega (arith, a, b);
+          paid = subst P count_after sees.paid;
+          to = omega arith;
+        }
+
     event_is : IsEventOf t.sigs line.what event
     event_is = let W : What → Type 0 = λ w. IsEventOf t.sigs w event in subst W (sym is) (refl, known, refl)
 
     events_right : IsRight way.workers t G []
     events_right = right_behind way stands t start history seg agents after s was mid old s.clock false barriers all line.number event refl link tt tt
-        (read_ok, left_ok way stands t start history seg agents after s was mid old s.clock false barriers all line.number event refl link) digest_ok
+        (read_ok, left_ok way stands t start history seg agents after s was mid old s.clock false barriers all line.number event refl link) digest_ok read_from
 
     shelf_after : IsKeptOn t G [] (λ r. nothing_unfinished) start now
-    shelf_after = shelf_behind way stands t start history seg agents after s was mid old s.clock false barriers all line.number event refl link now sees.later sees.still sees.unchanged query_paid true_ok faults_ok
+    shelf_after = shelf_behind way stands t start history seg agents after s was mid old s.clock false barriers all line.number event refl link now sees.later sees.still sees.unchanged query_paid true_ok faults_ok during
 
     -- the sights of all routers, where the lines before this one are done
     pub sights_are : way.workers ≡ 1 → (before upto later : List Line) → t.lines ≡ upto ++ later → upto ≡ before ++ line ∷ [] → IsHistoryOf t.sigs before F → AreSights shown told t line.number sights (record { shelf_before = start; shelf_after = now })
@@ -232,7 +250,7 @@ module _ {A S : Type 0} (way : Way A) (stands : Standing A) (shown : S → Shown
       left = lefts_of barriers;
       sequential = (alone_of way.workers t G [] alone events_right.lines).sequential (λ r. no_split);
       watched = (alone_of way.workers t G [] alone events_right.lines).watched (λ r. no_split);
-      done = possible way.workers t upto G (λ r. nothing_unfinished) start now (before, line, last, refl, event_is, history_of) events_right shelf_after;
+      done = possible way.workers t upto G (λ r. nothing_unfinished) start now (before, line, last, refl, event_is, history_of) refl events_right shelf_after;
       count_is = sees.count ∙ count_after;
       each = λ r d l.
           let P : S → Type 0 = λ x. IsSightAt (rules_of t) G query r (shown x) (told x) in

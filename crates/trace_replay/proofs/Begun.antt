@@ -1,6 +1,7 @@
 -- How a replay begins and ends.
 use Rattle.std.proofs.Common.{ℕ, ◌≡◌, ◌<◌, ◌+◌, ◌-◌, ◌∷◌, [], ◌++◌, ◌∙◌, Bool, true, false, ◌==◌, List, length, get_or, take, sym, ap, refl, subst, arith, append-nil}
-use Rattle.std.specs.Prelude.{slice_get, Some}
+use Rattle.std.specs.Prelude.{slice_get, Some, is_some}
+use Rattle.std.proofs.lemmas.Bool.{false≢true}
 use Rattle.std.proofs.Math.Seq.{take-length}
 use Rattle.spie_base.proofs.Membership.{has_none}
 use Rattle.spie_base.specs.Shapes.{shape_of}
@@ -14,6 +15,7 @@ use Rattle.trace_format.specs.declared.Trace.{Trace}
 use Rattle.trace_format.specs.Sound.{IsSound, AreTimed}
 use Rattle.router_account.specs.Ledger.{Unfinished, first_ledger, nothing_unfinished, no_split}
 use Rattle.router_account.specs.Shelves.{ShelfView}
+use Rattle.data_agent.specs.Beside.{out_of}
 use Rattle.data_agent.specs.Planes.{entries_of}
 use Rattle.data_agent.specs.Standing.{StandsFor}
 use Rattle.data_agent.specs.declared.Agent.{Agent}
@@ -31,10 +33,11 @@ use Rattle.trace_replay.specs.declared.state.Answer.{Answer}
 use Rattle.trace_replay.specs.declared.state.State.{State}
 use Rattle.trace_replay.specs.Agents.{Standing}
 use Rattle.trace_replay.specs.Loop.{HasDone}
-use Rattle.trace_replay.specs.Segments.{Splits, Pending, filled, is_barrier_line, numbered, pending_items}
-use Rattle.trace_replay.specs.Standing.{Way, Stands, IsBegun, AreLinesRight, AreGathered, IsRight, IsKeptOn, AreFew}
+use Rattle.trace_replay.specs.Segments.{IsBarred, Splits, Pending, filled, is_barrier_line, numbered, pending_items}
+use Rattle.trace_replay.specs.Standing.{AreSplits, Way, Stands, IsBegun, AreLinesRight, AreGathered, IsRight, IsKeptOn, AreFew}
 use Rattle.trace_replay.specs.Yards.{AreBeside, by_workers, yard_view, yard_views}
 use Rattle.trace_replay.proofs.Answered.{right_begun}
+use Rattle.trace_replay.proofs.Filled.{archive_is}
 use Rattle.trace_replay.proofs.Gathering.{worked_none}
 use Rattle.trace_replay.proofs.Beside.{length_views, view_there}
 use Rattle.trace_replay.proofs.Reported.{none_early}
@@ -52,7 +55,7 @@ stands_begun way stands t agents s now count_is first empty begun = record {
   agents_stand = λ f. record { each = λ r d l. first r d (subst (λ (n : ℕ). r < n) count_is l); numbered = λ r. refl };
   ordered = record { inner = tt; once = tt; barred = tt; forward = tt };
   gathered_are = λ r d l. empty r d l ∙ sym (worked_none way.workers r);
-  right = record { lines = right_begun (way.workers == 1) way.workers t; allowed_before = tt; allowed = λ f hyp. tt; same_digests = tt };
+  right = record { lines = right_begun (way.workers == 1) way.workers t; allowed_before = tt; allowed = λ f hyp. tt; same_digests = tt; read = tt };
   reported = record {
     early = [];
     first_is = begun.first;
@@ -70,6 +73,7 @@ stands_begun way stands t agents s now count_is first empty begun = record {
     later = omega arith;
     still = refl;
     paid = rose_less 0 (0 + sum_over (count t) (λ r. 0)) now.faults now.faults (rose_none now.faults now.faults (omega arith)) (let e = sum_none (count t) in omega (arith, e));
+    during = tt;
     all_true = λ tells. tt;
     only_faults = λ tells. tt;
     holds = λ tells f r l. record {
@@ -77,6 +81,7 @@ stands_begun way stands t agents s now count_is first empty begun = record {
       bits = λ x h. absurd (has_none x h);
       true_bits = λ x h. absurd (has_none x h);
     };
+    untouched = λ tells f hyp name apart. refl;
   };
 }
 
@@ -95,18 +100,25 @@ done_begun way stands t agents s now sound begun stood =
       closed = λ d l b. refl;
     }
 
+-- no archival waits behind a barrier
+none_split : (t : Trace) (f : Splits) (history : History) → IsBarred history → AreSplits t f history
+none_split t f history barred r closings l came = absurd (false≢true (sym (archive_is (rules_of t) r f [] history tt barred) ∙ ap is_some came))
+
 -- a history up to a barrier is one that its lines and a shelf may have
 pub possible : (W : ℕ) (t : Trace) (lines : List Line) (history : History) (us : ℕ → Unfinished) (start now : ShelfView) → IsHistoryOf t.sigs lines history
-    → IsRight W t history [] → IsKeptOn t history [] us start now → IsPossible t lines start now history
-possible W t lines history us start now lines_are right kept = record {
+    → IsBarred history → IsRight W t history [] → IsKeptOn t history [] us start now → IsPossible t lines start now history
+possible W t lines history us start now lines_are barred right kept = record {
   lines_are = lines_are;
   allowed = right.allowed_before;
   same_digests = right.same_digests;
+  read = right.read;
   shelf = record {
     paid = rose_less (fault_marks (count t) history + sum_over (count t) (λ r. (us r).refused)) (fault_marks (count t) history) start.faults now.faults kept.paid (omega arith);
+    during = kept.during;
     all_true = kept.all_true;
     only_faults = kept.only_faults;
     holds = λ tells r l. (kept.holds tells (λ q. no_split) r l).records;
+    untouched = λ tells. kept.untouched tells (λ q. no_split) (none_split t (λ q. no_split) history barred);
   };
 }
 
@@ -122,15 +134,17 @@ last_closes t d sound =
 
 -- the yard of a history that is done
 module _ (W : ℕ) (t : Trace) (history : History) (planes : List PlaneId) (agents : List Agent) (beside : AreBeside planes agents) (count_is : length agents ≡ count t)
-    (shapes : (r : ℕ) (p : PlaneId) → r < count t → (get_or planes r p).shape ≡ shape_of (rules_of t r) r) (gathered_are : AreGathered (by_workers W) t history [] agents) where
-  view_is : (r : ℕ) (p : PlaneId) (a : Agent) → r < count t → yard_view (get_or planes r p) (get_or agents r a) ≡ record { shape = shape_of (rules_of t r) r; entries = gathered W r history }
+    (shapes : (r : ℕ) (p : PlaneId) → r < count t → (get_or planes r p).shape ≡ shape_of (rules_of t r) r) (gathered_are : AreGathered (by_workers W) t history [] agents)
+    (alone : (r : ℕ) (a : Agent) → r < count t → out_of (get_or agents r a) ≡ 0) where
+  view_is : (r : ℕ) (p : PlaneId) (a : Agent) → r < count t → yard_view (get_or planes r p) (get_or agents r a) ≡ record { shape = shape_of (rules_of t r) r; entries = gathered W r history; out = 0 }
   view_is r p a l =
-      let E : PageShape → Type 0 = λ shape. yard_view (get_or planes r p) (get_or agents r a) ≡ record { shape = shape; entries = entries_of (get_or agents r a) } in
+      let E : PageShape → Type 0 = λ shape. yard_view (get_or planes r p) (get_or agents r a) ≡ record { shape = shape; entries = entries_of (get_or agents r a); out = out_of (get_or agents r a) } in
       subst E (shapes r p l) refl
-      ∙ ap (λ (es : List Entry). pages_view (shape_of (rules_of t r) r) es)
+      ∙ ap (λ (es : List Entry). pages_view (shape_of (rules_of t r) r) es (out_of (get_or agents r a)))
       (gathered_are r a l ∙ ap (λ (es : List Entry). gathered W r history ++ es) (worked_none W r) ∙ append-nil (gathered W r history))
+      ∙ ap (pages_view (shape_of (rules_of t r) r) (gathered W r history)) (alone r a l)
 
-  some_view : (r : ℕ) → r < count t → slice_get (yard_views planes agents) r ≡ Some (record { shape = shape_of (rules_of t r) r; entries = gathered W r history })
+  some_view : (r : ℕ) → r < count t → slice_get (yard_views planes agents) r ≡ Some (record { shape = shape_of (rules_of t r) r; entries = gathered W r history; out = 0 })
   some_view r l =
       let within : r < length agents = omega (arith, l, count_is) in
       let c = beside.count in
@@ -166,7 +180,8 @@ replayed W t start now d planes agents s text sound done is beside shapes =
       history = done.history;
       legal = answered.0;
       answered = answered.1;
-      done = possible W t t.lines done.history stood.us start now (subst H (take-length t.lines) (subst L none done.lines_are f)) stood.right stood.shelf;
+      done = possible W t t.lines done.history stood.us start now (subst H (take-length t.lines) (subst L none done.lines_are f)) stood.ordered.barred stood.right stood.shelf;
       report = record { items = p.items; answered = p.answered; text_is = is ∙ text_is; totals_are = p.totals_are };
-      yard_is = yard_left W t done.history planes agents beside stood.count_is shapes stood.gathered_are;
+      yard_is = yard_left W t done.history planes agents beside stood.count_is shapes stood.gathered_are
+          (λ r a l. let many = stood.count_is in ((stood.agents_stand f).each r a (omega (arith, l, many))).amid.pages.keeping.alone);
     }

@@ -23,8 +23,8 @@ use Rattle.data_agent.specs.declared.Barrier.{Barrier}
 use Rattle.data_agent.specs.Calls.{closing_of, marks_of}
 use Rattle.trace_history.specs.declared.Totals.{Totals}
 use Rattle.trace_history.specs.History.{Event, recorded, rotated, archived, watched, ticked, queried, ended, Moment, History, IsEventOf, clock}
-use Rattle.trace_history.specs.Ledgers.{ledger}
-use Rattle.trace_history.specs.Outcomes.{IsAllowedEvent, AreAllLeft, IfQuery, HasSameDigests, IsTrueQuery, HasOnlyFaults, fault_marks, fault_marks_by}
+use Rattle.trace_history.specs.Ledgers.{covers, ledger}
+use Rattle.trace_history.specs.Outcomes.{IsAllowedEvent, AreAllLeft, IfQuery, HasSameDigests, IsReadQuery, IsReadDuring, IsTrueQuery, HasOnlyFaults, fault_marks, fault_marks_by}
 use Rattle.trace_history.specs.Receipts.{is_barrier, IsInTurn}
 use Rattle.trace_history.specs.Report.{AreItems, text_of, closing_items, closed_items, left_items}
 use Rattle.trace_history.specs.Routers.{count, rules_of, routers, sum_over}
@@ -40,14 +40,16 @@ use Rattle.trace_replay.specs.Yards.{AllKeepEntries}
 use Rattle.trace_replay.specs.Standing.{Way, Stands, IsNext, AreFew, IsPrinted, IsRight, IsKeptOn, AreSplits, pending_at}
 use Rattle.trace_replay.proofs.Answered.{right_closed}
 use Rattle.trace_replay.proofs.Gathering.{gathered_closed}
-use Rattle.trace_replay.proofs.Filled.{moment_of, clock_filled, forward_filled, length_filled}
+use Rattle.trace_replay.proofs.Filled.{moment_of, clock_filled, forward_filled, length_filled, up_filled}
 use Rattle.trace_replay.proofs.Inner.{late_by, room_at, stands_at}
 use Rattle.trace_replay.proofs.Numbered.{answers_back}
 use Rattle.trace_replay.proofs.Named.{all_of}
+use Rattle.trace_replay.proofs.During.{during_later}
 use Rattle.trace_replay.proofs.Passed.{ledger_ticked, ledger_ended, items_filled, each_filled, marks_filled}
 use Rattle.trace_replay.proofs.Passing.{holds_same}
 use Rattle.trace_replay.proofs.Reported.{answered_length, few_longer, text_whole}
 use Rattle.trace_replay.proofs.Quiet.{AreQuiet, quiet_append, quiet_cons, quiet_flat_map, quiet_pending, quiet_left, quiet_closing, totals_quiet, flat_map_same}
+use Rattle.trace_replay.proofs.Touched.{covered_more}
 use Rattle.trace_replay.proofs.Sums.{rose_add, rose_less, sum_none, sum_less, sum_add, some_of}
 
 -- ---- before the barrier
@@ -173,12 +175,14 @@ module _ {A : Type 0} (way : Way A) (stands : Standing A) (t : Trace) (start : S
 
     -- the events up to the barrier are right
     pub right_behind : IsInTurn (rules_of t) F event → IsSequentialWatch (rules_of t) F event
-        → IsAllowedEvent (count t) (rules_of t) F G event → IfQuery (HasSameDigests (count t) (rules_of t)) G event → IsRight way.workers t G []
-    right_behind turn watch allowed digest = record {
+        → IsAllowedEvent (count t) (rules_of t) F G event → IfQuery (HasSameDigests (count t) (rules_of t)) G event
+        → IfQuery (IsReadQuery (count t) (rules_of t)) G event → IsRight way.workers t G []
+    right_behind turn watch allowed digest read = record {
       lines = right_closed (way.workers == 1) way.workers t line event f seg history is_b old.ordered.inner old.ordered.barred turn watch old.right.lines;
       allowed_before = (old.right.allowed f splits_ok, allowed);
       allowed = λ f' hyp. (old.right.allowed f splits_ok, allowed);
       same_digests = (each_filled (HasSameDigests (count t) (rules_of t)) f seg history old.ordered.inner old.right.same_digests, digest);
+      read = (each_filled (IsReadQuery (count t) (rules_of t)) f seg history old.ordered.inner old.right.read, read);
     }
 
     abbrev none_left : ℕ → Unfinished
@@ -189,11 +193,13 @@ module _ {A : Type 0} (way : Way A) (stands : Standing A) (t : Trace) (start : S
         → now.faults ≤ end.faults → end.tells ≡ now.tells → (now.tells ≡ true → IsSame now.contents end.contents)
         → RoseBy (fault_marks (count t) F + fault_marks_by (count t) event) start.faults end.faults
         → (start.tells ≡ true → IfQuery (IsTrueQuery (count t) (rules_of t)) G event) → (start.tells ≡ true → IfQuery (HasOnlyFaults (count t)) G event)
+        → IfQuery (λ h query. IsReadDuring (count t) start end query) G event
         → IsKeptOn t G [] none_left start end
-    shelf_behind end later still same paid all_true only_faults = record {
+    shelf_behind end later still same paid all_true only_faults during = record {
       later = let a = old.shelf.later in let b = all.later in omega (arith, a, b, later);
       still = still ∙ all.still ∙ old.shelf.still;
       paid = let z = sum_none (count t) in rose_less (fault_marks (count t) F + fault_marks_by (count t) event) ((fault_marks (count t) F + fault_marks_by (count t) event) + sum_over (count t) (λ r. 0)) start.faults end.faults paid (omega (arith, z));
+      during = (each_filled (λ h query. IsReadDuring (count t) start end query) f seg history old.ordered.inner (during_later (count t) start was end (let a = all.later in omega (arith, a, later)) history old.shelf.during), during);
       all_true = λ tells. (each_filled (IsTrueQuery (count t) (rules_of t)) f seg history old.ordered.inner (old.shelf.all_true tells), all_true tells);
       only_faults = λ tells. (each_filled (HasOnlyFaults (count t)) f seg history old.ordered.inner (old.shelf.only_faults tells), only_faults tells);
       holds = λ tells f' r l.
@@ -204,6 +210,17 @@ module _ {A : Type 0} (way : Way A) (stands : Standing A) (t : Trace) (start : S
             bits = λ x h. absurd (has_none x h);
             true_bits = λ x h. absurd (has_none x h);
           };
+      untouched = λ tells f' hyp name apart.
+          let told : was.tells ≡ true = old.shelf.still ∙ tells in
+          let r : ℕ = name.router.number in
+          let N : ℕ → Type 0 = λ n. r < n in
+          let P : List ℕ → Type 0 = λ pages. Contains pages name.page.number in
+          same (all.still ∙ told) name
+          ∙ all.untouched told (rules_of t) before_of old.us (old.agents_stand f) name
+          (λ is.
+          let l : r < count t = subst N old.count_is is.router in
+          apart (record { router = l; page = subst P (ap (λ (x : Ledger). x.covered_before) (sym (link r l)) ∙ ap (λ (h : History). covers r h) (up_filled f [] G tt is_b)) is.page }))
+          ∙ old.shelf.untouched tells f splits_ok name (λ is. apart (covered_more (count t) line event F name is));
     }
 
     -- the agents and the shelf may have been asked further, and stand for the same
@@ -307,9 +324,9 @@ module _ {A : Type 0} (way : Way A) (stands : Standing A) (t : Trace) (start : S
           subst W (sym is) refl,
           stands_closed line.number tick_event refl tick_link new now
               prints.clock_is (subst T (sym prints.clock_is) (subst HasTime is has_time)) (first_behind (moment_of line.number tick_event) mid new pends prints.first) (prints.answers ∙ pends.answers) (omega (arith, later, e)) keep
-              (right_behind line.number tick_event refl tick_link tt tt (left_ok line.number tick_event refl tick_link) tt)
+              (right_behind line.number tick_event refl tick_link tt tt (left_ok line.number tick_event refl tick_link) tt tt)
               (printed_more line.number tick_event mid new (tick_items t barriers line.number time) time pends prints tick_are tick_quiet)
-              (shelf_behind line.number tick_event refl tick_link now (omega arith) refl (λ told name. refl) barrier_paid (λ told. tt) (λ told. tt)),
+              (shelf_behind line.number tick_event refl tick_link now (omega arith) refl (λ told name. refl) barrier_paid (λ told. tt) (λ told. tt) tt),
         )
 
   -- ---- the end
@@ -341,7 +358,7 @@ module _ {A : Type 0} (way : Way A) (stands : Standing A) (t : Trace) (start : S
           subst W (sym is) tt,
           stands_closed line.number end_event refl end_link new now
               (prints.clock_is ∙ sym same_time ∙ sym clock_now) (subst T (sym prints.clock_is) old.clock_fits) (first_behind (moment_of line.number end_event) mid new pends prints.first) (prints.answers ∙ pends.answers) tt keep
-              (right_behind line.number end_event refl end_link tt tt (left_ok line.number end_event refl end_link) tt)
+              (right_behind line.number end_event refl end_link tt tt (left_ok line.number end_event refl end_link) tt tt)
               (printed_more line.number end_event mid new (end_items t barriers line.number) s.clock pends prints refl end_quiet)
-              (shelf_behind line.number end_event refl end_link now (omega arith) refl (λ told name. refl) barrier_paid (λ told. tt) (λ told. tt)),
+              (shelf_behind line.number end_event refl end_link now (omega arith) refl (λ told name. refl) barrier_paid (λ told. tt) (λ told. tt) tt),
         )

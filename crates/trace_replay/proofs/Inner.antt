@@ -28,6 +28,7 @@ use Rattle.trace_replay.proofs.Answered.{alone_of, of_alone}
 use Rattle.trace_replay.proofs.Gathering.{gathered_more}
 use Rattle.trace_replay.proofs.Closed.{grows_by}
 use Rattle.trace_replay.proofs.Reported.{clock_kept, reported_more}
+use Rattle.trace_replay.proofs.Touched.{covered_more}
 use Rattle.trace_replay.proofs.Sums.{same_or}
 use Rattle.trace_replay.proofs.Filled.{moment_of, clock_filled, up_filled, forward_filled, late_history, few_history, length_filled}
 
@@ -144,6 +145,7 @@ module _ {A : Type 0} (way : Way A) (stands : Standing A) (t : Trace) (start : S
             allowed_before = old.right.allowed_before;
             allowed = λ f hyp. let x = allowed f hyp in (old.right.allowed f x.0, x.1);
             same_digests = old.right.same_digests;
+            read = old.right.read;
           };
           reported = reported_more t history seg s old.reported s' line event place adds;
           shelf = kept;
@@ -152,12 +154,14 @@ module _ {A : Type 0} (way : Way A) (stands : Standing A) (t : Trace) (start : S
   -- where the shelf stays as it was, and so does what it holds of the router
   pub kept_with : (line : ℕ) (event : Event) (r0 : ℕ)
       → ((f : Splits) (r : ℕ) → r ≢ r0 → ledger (rules_of t) r (G line event f) ≡ ledger (rules_of t) r (F f))
+      → ((f : Splits) → AreSplits t f (G line event f) → AreSplits t f (F f))
       → ((f : Splits) → IsHeld (rules_of t r0) was.contents (ledger (rules_of t) r0 (F f)) (old.us r0) → IsHeld (rules_of t r0) was.contents (ledger (rules_of t) r0 (G line event f)) (old.us r0))
       → IsKeptOn t history (moment_of line event ∷ seg) old.us start was
-  kept_with line event r0 others own = record {
+  kept_with line event r0 others splits own = record {
     later = old.shelf.later;
     still = old.shelf.still;
     paid = old.shelf.paid;
+    during = old.shelf.during;
     all_true = old.shelf.all_true;
     only_faults = old.shelf.only_faults;
     holds = λ tells f r l. ⊎_elim
@@ -167,4 +171,5 @@ module _ {A : Type 0} (way : Way A) (stands : Standing A) (t : Trace) (start : S
         subst P (sym e) (own f (subst Q e (old.shelf.holds tells f r l))))
         (λ (ne : r ≢ r0). let P : Ledger → Type 0 = λ x. IsHeld (rules_of t r) was.contents x (old.us r) in subst P (sym (others f r ne)) (old.shelf.holds tells f r l))
         (same_or r r0);
+    untouched = λ tells f hyp name apart. old.shelf.untouched tells f (splits f hyp) name (λ is. apart (covered_more (count t) line (with_split f event) (F f) name is));
   }

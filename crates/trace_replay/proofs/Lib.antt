@@ -12,6 +12,7 @@ pub mod Closes
 pub mod Concluded
 pub mod DealtMore
 pub mod Doing
+pub mod During
 pub mod Ending
 pub mod Filled
 pub mod Gathering
@@ -46,4 +47,5 @@ pub mod Sums
 pub mod TakenMore
 pub mod Texts
 pub mod Together
+pub mod Touched
 pub mod Within

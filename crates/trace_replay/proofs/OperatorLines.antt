@@ -42,8 +42,10 @@ use Rattle.trace_replay.specs.Segments.{Splits, with_split, filled, archived_in,
 use Rattle.trace_replay.specs.Standing.{AreSplits}
 use Rattle.trace_replay.proofs.Closed.{grows_by, puts_closed}
 use Rattle.trace_replay.proofs.Filled.{moment_of, clock_filled, up_filled, forward_filled, late_history, few_history, length_filled, rotated_own, rotated_other, archived_own, archived_other, puts_filled, archive_is}
+use Rattle.trace_replay.proofs.During.{during_later}
 use Rattle.trace_replay.proofs.Held.{ArePutClosed, text_turned, bits_turned}
 use Rattle.trace_replay.proofs.Passing.{holds_still}
+use Rattle.trace_replay.proofs.Touched.{archived_covers, covered_more, untouched_then}
 use Rattle.trace_replay.proofs.Sums.{rose_add, rose_less, same_or, sum_update}
 
 none_some : {X : Type 0} (x : X) → None ≡ Some x → ⊥
@@ -188,12 +190,14 @@ module _ {A V : Type 0} (besides : Besides A V) (reads : Reads A) (t : Trace) (s
   -- where the shelf stays as it was, and so does what it holds of the router
   pub kept_with : (line : ℕ) (event : Event) (r0 : ℕ)
       → ((f : Splits) (r : ℕ) → r ≢ r0 → ledger (rules_of t) r (G line event f) ≡ ledger (rules_of t) r (F f))
+      → ((f : Splits) → AreSplits t f (G line event f) → AreSplits t f (F f))
       → ((f : Splits) → HoldsSoFar (rules_of t r0) was.contents (ledger (rules_of t) r0 (F f)) (old.us r0) → HoldsSoFar (rules_of t r0) was.contents (ledger (rules_of t) r0 (G line event f)) (old.us r0))
       → IsKeptBeside t history (moment_of line event ∷ ops) old.us start was
-  kept_with line event r0 others own = record {
+  kept_with line event r0 others splits own = record {
     later = old.shelf.later;
     still = old.shelf.still;
     paid = old.shelf.paid;
+    during = old.shelf.during;
     holds = λ tells f r l. ⊎_elim
         (λ (e : r ≡ r0).
         let P : ℕ → Type 0 = λ q. HoldsSoFar (rules_of t q) was.contents (ledger (rules_of t) q (G line event f)) (old.us q) in
@@ -201,6 +205,7 @@ module _ {A V : Type 0} (besides : Besides A V) (reads : Reads A) (t : Trace) (s
         subst P (sym e) (own f (subst Q e (old.shelf.holds tells f r l))))
         (λ (ne : r ≢ r0). let P : Ledger → Type 0 = λ x. HoldsSoFar (rules_of t r) was.contents x (old.us r) in subst P (sym (others f r ne)) (old.shelf.holds tells f r l))
         (same_or r r0);
+    untouched = λ tells f hyp name apart. old.shelf.untouched tells f (splits f hyp) name (λ is. apart (covered_more (count t) line (with_split f event) (F f) name is));
   }
 
 -- ---- each kind of line
@@ -230,7 +235,7 @@ module _ {A V : Type 0} (besides : Besides A V) (reads : Reads A) (t : Trace) (l
             (λ f. let P : Ledger → Type 0 = λ k. besides new (aways r0) (rules_of t r0) k (old.us r0) in subst P (sym (is_now f)) (call (rules_of t r0) (L f) (old.us r0) (aways r0) (had f)))
             others (λ r ne. refl) old.us_none (λ f x h. let a = old.us_closed f r0 x h in let b = grows_by (rules_of t) r0 line.number (F f) event in omega (arith, a, b)) keeps refl refl tt adds
             (λ f. opened (rules_of t r0) (L f) (old.us r0) (aways r0) (had f)) (λ f. tt) (λ f hyp. (hyp, tt))
-            (kept_with besides reads t start history aways ops agents time answers more was was old line.number event r0 others
+            (kept_with besides reads t start history aways ops agents time answers more was was old line.number event r0 others (λ f hyp. hyp)
             (λ f h. let P : Ledger → Type 0 = λ k. HoldsSoFar (rules_of t r0) was.contents k (old.us r0) in
             subst P (sym (is_now f)) (held_turned (rules_of t r0) was.contents (L f) (old.us r0) time (puts_closed (count t) (rules_of t) r0 f ops history (old.us r0) old.ordered.inner old.ordered.barred old.allowed_before (old.us_closed f r0)) h))),
       )
@@ -262,7 +267,7 @@ module _ {A V : Type 0} (besides : Besides A V) (reads : Reads A) (t : Trace) (l
             (λ page a. ((let n = length-set agents r0 new in omega (arith, n, in_list)), (λ e. let Q : A → Type 0 = λ x. reads x page sig in subst Q (sym (get_or-set_at agents r0 r0 new e refl in_list)) a)))
             (call (rules_of t r0) (L f) (old.us r0) (aways r0) (had f))))
             (λ f hyp. (hyp, tt))
-            (kept_with besides reads t start history aways ops agents time answers more was was old line.number event r0 (λ f r ne. refl) (λ f h. h)),
+            (kept_with besides reads t start history aways ops agents time answers more was was old line.number event r0 (λ f r ne. refl) (λ f hyp. hyp) (λ f h. h)),
       )
 
   -- an archival's bits records are put with the bits that are known; whether they are the pages' is seen once passes are back
@@ -299,6 +304,18 @@ module _ {A V : Type 0} (besides : Besides A V) (reads : Reads A) (t : Trace) (l
       let puts_here : (f : Splits) → puts r0 (up_to_barrier (F f)) ≡ puts r0 (F f) = λ f.
       ap (λ (h : History). puts r0 h) (up_filled f ops history old.ordered.inner old.ordered.barred)
       ∙ sym (puts_filled (count t) r0 f ops history old.ordered.inner old.ordered.once ∙ ap (λ (b : Bool). cond b (f r0).put [] ++ puts r0 history) once) in
+      let splits_before : (f : Splits) → AreSplits t f (G f) → AreSplits t f (F f) = λ f hyp r closings l came.
+      ⊎_elim
+      (λ (e : r ≡ r0).
+      let P : ℕ → Type 0 = λ q. closed_at_archive (rules_of t) q (F f) ≡ Some closings in
+      absurd (none_some closings (sym (first f) ∙ subst P e came)))
+      (λ (ne : r ≢ r0).
+      let P : Ledger → Type 0 = λ x. IsSplit (rules_of t r) (archive_view x closings) (f r) in
+      subst P (others f r ne) (hyp r closings l (ap (λ (x : Ledger). x.closed_at_archive) (others f r ne) ∙ came)))
+      (same_or r r0) in
+      let split_now : (f : Splits) → AreSplits t f (G f) → IsSplit R (archive_view (L f) (L f).account.closings) (f r0) = λ f hyp.
+      (let P : Ledger → Type 0 = λ x. IsSplit R (archive_view x (L f).account.closings) (f r0) in
+      subst P (is_now f) (hyp r0 (L f).account.closings l0 (ap (λ (x : Ledger). x.closed_at_archive) (is_now f)))) in
       let kept_here : start.tells ≡ true → (f : Splits) → HoldsSoFar R now.contents (at_archive (L f)) u1 = λ tells f.
       (let was_held = old.shelf.holds tells f r0 l0 in
       let told = old.shelf.still ∙ tells in
@@ -323,18 +340,8 @@ module _ {A V : Type 0} (besides : Besides A V) (reads : Reads A) (t : Trace) (l
             ⊎_elim (λ (a : Contains u0.bits_put x). absurd (no_bits x a)) (λ (b : Contains u_more.bits_put x). call.closed R (L f) u0 (had f) x b) (Contains-append_cases u0.bits_put u_more.bits_put x (subst P us_own h)))
             keeps refl refl (once, l0) adds (λ f. tt) (λ f. tt)
             (λ f hyp. (
-              (λ r closings l came. ⊎_elim
-                  (λ (e : r ≡ r0).
-                  let P : ℕ → Type 0 = λ q. closed_at_archive (rules_of t) q (F f) ≡ Some closings in
-                  absurd (none_some closings (sym (first f) ∙ subst P e came)))
-                  (λ (ne : r ≢ r0).
-                  let P : Ledger → Type 0 = λ x. IsSplit (rules_of t r) (archive_view x closings) (f r) in
-                  subst P (others f r ne) (hyp r closings l (ap (λ (x : Ledger). x.closed_at_archive) (others f r ne) ∙ came)))
-                  (same_or r r0)),
-              (let closings = (L f).account.closings in
-                  let P : Ledger → Type 0 = λ x. IsSplit R (archive_view x closings) (f r0) in
-                  let U : List ℕ → Type 0 = λ xs. IsSplit R (record (archive_view (L f) closings) { put_before = xs }) (f r0) in
-                  subst U (puts_here f) (subst P (is_now f) (hyp r0 closings l0 (ap (λ (x : Ledger). x.closed_at_archive) (is_now f))))),
+              splits_before f hyp,
+              (let U : List ℕ → Type 0 = λ xs. IsSplit R (record (archive_view (L f) (L f).account.closings) { put_before = xs }) (f r0) in subst U (puts_here f) (split_now f hyp)),
             ))
             (record {
               later = let a = old.shelf.later in omega (arith, a, later);
@@ -346,6 +353,7 @@ module _ {A V : Type 0} (besides : Besides A V) (reads : Reads A) (t : Trace) (l
                   sum_update n (λ r. (old.us r).refused) (λ r. (us r).refused) r0 u_more.refused l0 (ap (λ (u : Unfinished). u.refused) us_own) (λ r ne. ap (λ (u : Unfinished). u.refused) (us_other r ne)) in
                   rose_less ((fault_marks n history + had_refused) + u_more.refused) (fault_marks n history + sum_over n (λ r. (us r).refused)) start.faults now.faults
                   (rose_add (fault_marks n history + had_refused) u_more.refused start.faults was.faults now.faults old.shelf.paid rose) (omega (arith, sum));
+              during = during_later (count t) start was now later history old.shelf.during;
               holds = λ tells f r l. ⊎_elim
                   (λ (e : r ≡ r0).
                   let P : ℕ → Type 0 = λ q. HoldsSoFar (rules_of t q) now.contents (ledger (rules_of t) q (G f)) (us q) in
@@ -359,6 +367,10 @@ module _ {A V : Type 0} (besides : Besides A V) (reads : Reads A) (t : Trace) (l
                   (call.others R (L f) u0 (had f) (old.shelf.still ∙ tells))
                   (λ e. ne (sym (account_router (rules_of t) r (F f)) ∙ e ∙ account_router (rules_of t) r0 (F f))) (old.shelf.holds tells f r l))))
                   (same_or r r0);
+              untouched = λ tells f hyp. untouched_then (count t) (F f) (G f) start.contents was.contents now.contents
+                  (λ name is. covered_more (count t) line.number (archived r0 (f r0).put (f r0).kept) (F f) name is) (old.shelf.untouched tells f (splits_before f hyp))
+                  (λ name apart. call.untouched R (L f) u0 (had f) (old.shelf.still ∙ tells) name
+                  (λ noted. apart (archived_covers (count t) R (L f) (f r0) r0 line.number (F f) name l0 (account_router (rules_of t) r0 (F f)) (split_now f hyp) noted)));
             }),
       )
 

@@ -1,20 +1,22 @@
 -- A barrier at one router more.
 use Rattle.std.proofs.Common.{ℕ, below_more, ◌≡◌, ◌≢◌, ◌≤◌, ◌<◌, ◌+◌, ◌-◌, ◌∷◌, [], ◌++◌, ◌∙◌, Bool, true, false, cond, List, length, get_or, set, sym, ap, refl, subst, arith, length-append, length-set}
+use Rattle.std.specs.List.{Contains}
 use Rattle.std.proofs.lemmas.Grind.{get_or-set_at}
 use Rattle.std.proofs.lemmas.List.{get_or-set_other}
 use Rattle.spie_base.specs.Causes.{RoseBy}
 use Rattle.spie_base.specs.declared.Rules.{Rules}
 use Rattle.page_catalogue.specs.Pages.{open_page, is_due}
-use Rattle.page_shelf.specs.Shelves.{Contents, IsSame}
+use Rattle.page_shelf.specs.Shelves.{ChangesOnly, Contents, IsSame}
 use Rattle.page_shelf.specs.declared.ShelfPart.TheVariants.{Bits}
 use Rattle.router_account.specs.Account.{Account, fill, with_closing}
 use Rattle.router_account.specs.Ledger.{Ledger, Unfinished, nothing_unfinished}
 use Rattle.router_account.specs.Records.{Holds, HoldsBits, ArePageBits, KeepsOthers, name_of}
 use Rattle.router_account.specs.Shelves.{ShelfView}
 use Rattle.data_agent.specs.declared.Barrier.{Barrier}
-use Rattle.data_agent.specs.Calls.{IsPassed, marks_of}
+use Rattle.data_agent.specs.Calls.{IsPassed, IsPassedName, marks_of, split_of}
 use Rattle.trace_history.specs.Routers.{RouterRules, sum_over}
 use Rattle.trace_replay.specs.Agents.{Standing, AllStand, IsHeld, barrier_at, no_barrier, passed, passed_by, IsPassedAt, PassesUpTo}
+use Rattle.trace_replay.proofs.Touched.{passed_page}
 use Rattle.trace_replay.proofs.Sums.{rose_add, sum_more, get_push_same, get_push_other}
 
 -- ---- the router of a ledger behind a barrier
@@ -57,7 +59,8 @@ module _ {A : Type 0} (stands : Standing A) (clock : ℕ) (tick : Bool) (i : ℕ
     (paid : (rules : Rules) (l : Ledger) (u : Unfinished) → stands x rules l u → RoseBy (marks_of b - u.refused) s1.faults s2.faults)
     (holds : (rules : Rules) (l : Ledger) (u : Unfinished) → stands x rules l u → s1.tells ≡ true → Holds rules s1.contents l → HoldsBits rules s1.contents l.account u → ArePageBits rules l.account u
     → Holds rules s2.contents (passed rules l clock tick b))
-    (others : (rules : Rules) (l : Ledger) (u : Unfinished) → stands x rules l u → s1.tells ≡ true → KeepsOthers l.account.router s1.contents s2.contents) where
+    (others : (rules : Rules) (l : Ledger) (u : Unfinished) → stands x rules l u → s1.tells ≡ true → KeepsOthers l.account.router s1.contents s2.contents)
+    (only : (rules : Rules) (l : Ledger) (u : Unfinished) → stands x rules l u → s1.tells ≡ true → ChangesOnly (IsPassedName rules l (passed rules l clock tick b) (split_of b)) s1.contents s2.contents) where
   within : i < length mid
   within = subst (λ (n : ℕ). i < n) (sym so.same) in_old
 
@@ -129,4 +132,17 @@ module _ {A : Type 0} (stands : Standing A) (clock : ℕ) (tick : Bool) (i : ℕ
         subst P (sym here) (holds (rules i) (ls i) (us i) (x_stands rules ls us all) (tells_mid t) was.records was.bits was.true_bits));
     others = λ t rules ls us all held r l m. held_still (rules r) s1.contents s2.contents (ls i).account.router (ls r) (us r) (spared rules ls us t all)
         (apart rules ls us all r (ls r) (all.numbered r) (omega arith)) (so.others t rules ls us all held r (omega arith) m);
+    untouched = λ t rules ls us all name spared.
+        let r : ℕ = name.router.number in
+        only (rules i) (ls i) (us i) (x_stands rules ls us all) (tells_mid t) name
+        (λ is.
+        let at : r ≡ i = is.router ∙ all.numbered i in
+        let P : ℕ → Type 0 = λ q. Contains (passed_by rules clock tick (bs ++ b ∷ []) ls q).covered_before name.page.number in
+        let Q : Barrier → Type 0 = λ y. Contains (passed (rules i) (ls i) clock tick y).covered_before name.page.number in
+        spared (record { router = omega (arith, at); page = subst P (sym at) (subst Q (sym here) (passed_page (rules i) (ls i) clock tick b name is)) }))
+        ∙ so.untouched t rules ls us all name
+        (λ is.
+        let Q : Barrier → Type 0 = λ y. Contains (passed (rules r) (ls r) clock tick y).covered_before name.page.number in
+        let below = is.router in
+        spared (record { router = omega (arith, below); page = subst Q (sym (there r below)) is.page }));
   }

@@ -102,7 +102,9 @@ module _ (t : Trace) (from to W : ℕ) (planes : List PlaneId) (sound : IsSound 
             later = old.shelf.later;
             still = old.shelf.still;
             paid = old.shelf.paid;
+            during = old.shelf.during;
             holds = λ tells f r l. let h = old.shelf.holds tells f r l in record { records = h.records; bits = h.bits };
+            untouched = old.shelf.untouched;
           };
         }
 

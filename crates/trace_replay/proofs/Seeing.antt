@@ -7,9 +7,11 @@ use Rattle.spie_base.specs.Shown.{Shown}
 use Rattle.spie_base.specs.declared.Rules.{Rules}
 use Rattle.page_shelf.specs.Shelves.{IsSame}
 use Rattle.router_account.specs.Ledger.{Ledger, Unfinished}
+use Rattle.router_account.specs.Readings.{IsReadFrom}
 use Rattle.router_account.specs.Records.{Holds, AreTrue, AllFailed}
 use Rattle.router_account.specs.Shelves.{ShelfView}
 use Rattle.router_account.specs.Sights.{Reading, failures, no_reading}
+use Rattle.router_account.proofs.LaterReads.{read_since, read_to}
 use Rattle.data_agent.specs.Calls.{Told}
 use Rattle.trace_history.specs.Routers.{RouterRules, sum_over}
 use Rattle.trace_replay.specs.Agents.{Standing, AllStand, AllHold, IsSeenBy, SeesUpTo, reading_at}
@@ -23,6 +25,7 @@ module _ {A S : Type 0} (stands : Standing A) (shown : S → Shown) (told : S �
     (paid : RoseBy (failures (told s).reading) s1.faults s2.faults)
     (all_true : (rules : Rules) (l : Ledger) (u : Unfinished) → stands x rules l u → s1.tells ≡ true → Holds rules s1.contents l → AreTrue rules l.account (told s).reading)
     (only_faults : (rules : Rules) (l : Ledger) (u : Unfinished) → stands x rules l u → s1.tells ≡ true → Holds rules s1.contents l → AllFailed (told s).reading)
+    (read : (rules : Rules) (l : Ledger) (u : Unfinished) → stands x rules l u → IsReadFrom rules l.account s1 s2 (told s).reading)
     (unchanged : s1.tells ≡ true → IsSame s1.contents s2.contents) where
   x_stands : (rules : RouterRules) (ls : ℕ → Ledger) (us : ℕ → Unfinished) → AllStand stands rules ls us agents → stands x (rules i) (ls i) (us i)
   x_stands rules ls us all = let P : A → Type 0 = λ y. stands y (rules i) (ls i) (us i) in subst P (sym is) (all.each i d0 within)
@@ -51,5 +54,8 @@ module _ {A S : Type 0} (stands : Standing A) (shown : S → Shown) (told : S �
         (all_true (rules i) (ls i) (us i) (x_stands rules ls us all) (so.still ∙ t) (held_mid rules ls (length agents) t holds i within));
     only_faults = λ t rules ls us all holds. each_more (λ r y. AllFailed (told y).reading) (so.only_faults t rules ls us all holds)
         (only_faults (rules i) (ls i) (us i) (x_stands rules ls us all) (so.still ∙ t) (held_mid rules ls (length agents) t holds i within));
+    read = λ rules ls us all. each_more (λ r y. IsReadFrom (rules r) (ls r).account s0 s2 (told y).reading)
+        (λ r d l. read_to (rules r) (ls r).account s0 s1 s2 later (told (get_or ss r d)).reading (so.read rules ls us all r d l))
+        (read_since (rules i) (ls i).account s0 s1 s2 so.later so.still so.unchanged (told s).reading (read (rules i) (ls i) (us i) (x_stands rules ls us all)));
     unchanged = λ t name. unchanged (so.still ∙ t) name ∙ so.unchanged t name;
   }

@@ -18,7 +18,7 @@ use Rattle.router_account.specs.Watches.{shows}
 use Rattle.trace_history.specs.declared.Totals.{Totals}
 use Rattle.trace_history.specs.History.{Event, History, IsHistoryOf, Origin, changed, rows_after}
 use Rattle.trace_history.specs.History.{same as unchanged}
-use Rattle.trace_history.specs.Ledgers.{ledger, puts}
+use Rattle.trace_history.specs.Ledgers.{covers, ledger, puts}
 use Rattle.trace_history.specs.Outcomes.{IsAllowed}
 use Rattle.trace_history.specs.Receipts.{Receipt, open_at, receipts, IsLegalFor}
 use Rattle.trace_history.specs.Routers.{count, rules_of}
@@ -40,7 +40,7 @@ use Rattle.trace_replay.proofs.AllowedApart.{allowed_apart, splits_apart}
 use Rattle.trace_replay.proofs.Apart.{ledger_apart, inner_merged, once_merged, archived_operated}
 use Rattle.trace_replay.proofs.BetweenApart.{segment_between, lists_kept}
 use Rattle.trace_replay.proofs.Closed.{closed_history}
-use Rattle.trace_replay.proofs.Filled.{up_filled}
+use Rattle.trace_replay.proofs.Filled.{covers_filled, up_filled}
 use Rattle.trace_replay.proofs.Gathering.{worked_none}
 use Rattle.trace_replay.proofs.HeldApart.{holds_apart}
 use Rattle.trace_replay.proofs.LegalApart.{legal_apart}
@@ -201,6 +201,7 @@ module _ {A V : Type 0} (way : Way A) (stands : Standing A) (besides : Besides A
             let S : History → Type 0 = λ h. AreSplits t f (filled f h history) in
             allowed_apart (count t) (rules_of t) f history seg inner (subst A (sym seg_ops) (stood.allowed f (subst S seg_ops (splits_apart t f seg history inner hyp))));
         same_digests = old.right.same_digests;
+        read = old.right.read;
       }
 
   -- ---- the shelf
@@ -238,14 +239,30 @@ module _ {A V : Type 0} (way : Way A) (stands : Standing A) (besides : Besides A
         true_bits = bits f r l;
       })
 
+  once_all : AreOnce (count t) seg
+  once_all = let O1 : History → Type 0 = λ h. AreOnce (count t) h in once_merged (count t) seg (subst O1 (sym seg_ops) stood.ordered.once)
+
+  -- the operator's moments have all archivals of the segment
+  covers_same : (f : Splits) (r : ℕ) → covers r (filled f ops history) ≡ covers r (F f)
+  covers_same f r =
+      covers_filled (count t) r f ops history stood.ordered.inner stood.ordered.once
+      ∙ ap (λ (rs : List ℕ). cond (is_archived rs r) ((f r).put ++ (f r).kept) [] ++ covers r history) (ap (λ (h : History). archived_in h) (sym seg_ops) ∙ archived_operated seg)
+      ∙ sym (covers_filled (count t) r f seg history inner once_all)
+
   kept : IsKeptOn t history seg stood.us start now
   kept = record {
     later = stood.shelf.later;
     still = stood.shelf.still;
     paid = stood.shelf.paid;
+    during = stood.shelf.during;
     all_true = old.shelf.all_true;
     only_faults = old.shelf.only_faults;
     holds = held;
+    untouched = λ tells f hyp name apart.
+        let S : History → Type 0 = λ h. AreSplits t f (filled f h history) in
+        let r : ℕ = name.router.number in
+        let P : List ℕ → Type 0 = λ pages. Contains pages name.page.number in
+        stood.shelf.untouched tells f (subst S seg_ops (splits_apart t f seg history inner hyp)) name (λ is. apart (record { router = is.router; page = subst P (covers_same f r) is.page }));
   }
 
   -- ---- the answers
@@ -297,7 +314,7 @@ module _ {A V : Type 0} (way : Way A) (stands : Standing A) (besides : Besides A
             ∙ ap (λ (ys : List Receipt). gathered W r history ++ flat_map (λ w. share_of W w r 0 ys) (below W)) (sym seg_receipts);
         ordered = record {
           inner = inner;
-          once = (let O1 : History → Type 0 = λ h. AreOnce (count t) h in once_merged (count t) seg (subst O1 (sym seg_ops) stood.ordered.once));
+          once = once_all;
           barred = old.ordered.barred;
           forward = old.ordered.forward;
         };

@@ -36,13 +36,15 @@ use Rattle.trace_replay.specs.declared.state.State.{State}
 use Rattle.trace_replay.specs.declared.state.Answer.TheVariants.{Entered, Opened, Archived, Watched}
 use Rattle.trace_replay.specs.Agents.{Standing, IsHeld}
 use Rattle.trace_replay.specs.Segments.{Splits, filled, archived_in, answer_of}
-use Rattle.trace_replay.specs.Standing.{Way, Does, Adds}
+use Rattle.trace_replay.specs.Standing.{Way, Does, Adds, AreSplits}
 use Rattle.trace_replay.proofs.Closed.{puts_closed, grows_by}
 use Rattle.trace_replay.proofs.Filled.{moment_of, recorded_own, recorded_other, rotated_own, rotated_other, archived_own, archived_other, up_filled, puts_filled, archive_is}
 use Rattle.trace_replay.proofs.Gathering.{own_entry, other_entry}
+use Rattle.trace_replay.proofs.During.{during_later}
 use Rattle.trace_replay.proofs.Held.{ArePutClosed, held_recorded, held_changed, held_turned}
 use Rattle.trace_replay.proofs.Inner.{none_of, stands_at, clock_at, stands_more, kept_with}
 use Rattle.trace_replay.proofs.Passing.{held_still}
+use Rattle.trace_replay.proofs.Touched.{archived_covers, covered_more, untouched_then}
 use Rattle.trace_replay.proofs.Sums.{rose_add, rose_less, same_or, sum_update}
 
 none_some : {X : Type 0} (x : X) → None ≡ Some x → ⊥
@@ -76,7 +78,7 @@ module _ {A : Type 0} (way : Way A) (stands : Standing A) (t : Trace) (line : Li
             others (λ r ne. refl) old.us_none (λ f x h. let a = old.us_closed f r0 x h in let b = grows_by (rules_of t) r0 line.number (F f) event in omega (arith, a, b))
             alone d (entries ∙ ap (λ (es : List Entry). way.entries (get_or agents r0 d) ++ es) (sym (own_entry r0 page hop refl))) (λ r ne. other_entry r page hop (λ e. ne (sym e)))
             refl tt fits.place adds (λ f. (at f).0) (λ f. tt) (λ f hyp. (hyp, tt))
-            (kept_with way stands t start history seg agents s s' was was old line.number event r0 others
+            (kept_with way stands t start history seg agents s s' was was old line.number event r0 others (λ f hyp. hyp)
             (λ f h. let P : Ledger → Type 0 = λ l. IsHeld (rules_of t r0) was.contents l (old.us r0) in
             subst P (sym (is f)) (held was.contents (rules_of t r0) (L f) (old.us r0) (puts_closed (count t) (rules_of t) r0 f seg history (old.us r0) old.ordered.inner old.ordered.barred old.right.allowed_before (old.us_closed f r0)) (at f).0 h))),
       )
@@ -142,7 +144,7 @@ module _ {A : Type 0} (way : Way A) (stands : Standing A) (t : Trace) (line : Li
             others (λ r ne. refl) old.us_none (λ f x h. let a = old.us_closed f r0 x h in let b = grows_by (rules_of t) r0 line.number (F f) event in omega (arith, a, b))
             alone d (none_more entries) (λ r ne. refl) refl tt fits.place adds
             (λ f. opened (rules_of t r0) (L f) (old.us r0) (had f)) (λ f. tt) (λ f hyp. (hyp, tt))
-            (kept_with way stands t start history seg agents s s' was was old line.number event r0 others
+            (kept_with way stands t start history seg agents s s' was was old line.number event r0 others (λ f hyp. hyp)
             (λ f h. let P : Ledger → Type 0 = λ l. IsHeld (rules_of t r0) was.contents l (old.us r0) in
             subst P (sym (is_now f)) (held_turned (rules_of t r0) was.contents (L f) (old.us r0) s.clock (puts_closed (count t) (rules_of t) r0 f seg history (old.us r0) old.ordered.inner old.ordered.barred old.right.allowed_before (old.us_closed f r0)) h))),
       )
@@ -179,6 +181,18 @@ module _ {A : Type 0} (way : Way A) (stands : Standing A) (t : Trace) (line : Li
       let puts_here : (f : Splits) → puts r0 (up_to_barrier (F f)) ≡ puts r0 (F f) = λ f.
       ap (λ (h : History). puts r0 h) (up_filled f seg history old.ordered.inner old.ordered.barred)
       ∙ sym (puts_filled (count t) r0 f seg history old.ordered.inner old.ordered.once ∙ ap (λ (b : Bool). cond b (f r0).put [] ++ puts r0 history) once) in
+      let splits_before : (f : Splits) → AreSplits t f (G f) → AreSplits t f (F f) = λ f hyp r closings l came.
+      ⊎_elim
+      (λ (e : r ≡ r0).
+      let P : ℕ → Type 0 = λ q. closed_at_archive (rules_of t) q (F f) ≡ Some closings in
+      absurd (none_some closings (sym (first f) ∙ subst P e came)))
+      (λ (ne : r ≢ r0).
+      let P : Ledger → Type 0 = λ x. IsSplit (rules_of t r) (archive_view x closings) (f r) in
+      subst P (others f r ne) (hyp r closings l (ap (λ (x : Ledger). x.closed_at_archive) (others f r ne) ∙ came)))
+      (same_or r r0) in
+      let split_now : (f : Splits) → AreSplits t f (G f) → IsSplit R (archive_view (L f) (L f).account.closings) (f r0) = λ f hyp.
+      (let P : Ledger → Type 0 = λ x. IsSplit R (archive_view x (L f).account.closings) (f r0) in
+      subst P (is_now f) (hyp r0 (L f).account.closings l0 (ap (λ (x : Ledger). x.closed_at_archive) (is_now f)))) in
       let kept_here : start.tells ≡ true → (f : Splits) → IsHeld R now.contents (at_archive (L f)) u1 = λ tells f.
       (let was_held = old.shelf.holds tells f r0 l0 in
       let told = old.shelf.still ∙ tells in
@@ -205,18 +219,8 @@ module _ {A : Type 0} (way : Way A) (stands : Standing A) (t : Trace) (line : Li
             ⊎_elim (λ (a : Contains u0.bits_put x). absurd (no_bits x a)) (λ (b : Contains more.bits_put x). call.closed R (L f) u0 (had f) x b) (Contains-append_cases u0.bits_put more.bits_put x (subst P us_own h)))
             alone d (none_more entries) (λ r ne. refl) refl (once, l0) fits.place adds (λ f. tt) (λ f. tt)
             (λ f hyp. (
-              (λ r closings l came. ⊎_elim
-                  (λ (e : r ≡ r0).
-                  let P : ℕ → Type 0 = λ q. closed_at_archive (rules_of t) q (F f) ≡ Some closings in
-                  absurd (none_some closings (sym (first f) ∙ subst P e came)))
-                  (λ (ne : r ≢ r0).
-                  let P : Ledger → Type 0 = λ x. IsSplit (rules_of t r) (archive_view x closings) (f r) in
-                  subst P (others f r ne) (hyp r closings l (ap (λ (x : Ledger). x.closed_at_archive) (others f r ne) ∙ came)))
-                  (same_or r r0)),
-              (let closings = (L f).account.closings in
-                  let P : Ledger → Type 0 = λ x. IsSplit R (archive_view x closings) (f r0) in
-                  let U : List ℕ → Type 0 = λ xs. IsSplit R (record (archive_view (L f) closings) { put_before = xs }) (f r0) in
-                  subst U (puts_here f) (subst P (is_now f) (hyp r0 closings l0 (ap (λ (x : Ledger). x.closed_at_archive) (is_now f))))),
+              splits_before f hyp,
+              (let U : List ℕ → Type 0 = λ xs. IsSplit R (record (archive_view (L f) (L f).account.closings) { put_before = xs }) (f r0) in subst U (puts_here f) (split_now f hyp)),
             ))
             (record {
               later = let a = old.shelf.later in omega (arith, a, later);
@@ -228,6 +232,7 @@ module _ {A : Type 0} (way : Way A) (stands : Standing A) (t : Trace) (line : Li
                   sum_update n (λ r. (old.us r).refused) (λ r. (us r).refused) r0 more.refused l0 (ap (λ (u : Unfinished). u.refused) us_own) (λ r ne. ap (λ (u : Unfinished). u.refused) (us_other r ne)) in
                   rose_less ((fault_marks n history + had_refused) + more.refused) (fault_marks n history + sum_over n (λ r. (us r).refused)) start.faults now.faults
                   (rose_add (fault_marks n history + had_refused) more.refused start.faults was.faults now.faults old.shelf.paid rose) (omega (arith, sum));
+              during = during_later (count t) start was now later history old.shelf.during;
               all_true = old.shelf.all_true;
               only_faults = old.shelf.only_faults;
               holds = λ tells f r l. ⊎_elim
@@ -243,6 +248,10 @@ module _ {A : Type 0} (way : Way A) (stands : Standing A) (t : Trace) (line : Li
                   (call.others R (L f) u0 (had f) (old.shelf.still ∙ tells))
                   (λ e. ne (sym (account_router (rules_of t) r (F f)) ∙ e ∙ account_router (rules_of t) r0 (F f))) (old.shelf.holds tells f r l))))
                   (same_or r r0);
+              untouched = λ tells f hyp. untouched_then (count t) (F f) (G f) start.contents was.contents now.contents
+                  (λ name is. covered_more (count t) line.number (archived r0 (f r0).put (f r0).kept) (F f) name is) (old.shelf.untouched tells f (splits_before f hyp))
+                  (λ name apart. call.untouched R (L f) u0 (had f) (old.shelf.still ∙ tells) name
+                  (λ noted. apart (archived_covers (count t) R (L f) (f r0) r0 line.number (F f) name l0 (account_router (rules_of t) r0 (F f)) (split_now f hyp) noted)));
             }),
       )
 
@@ -271,5 +280,5 @@ module _ {A : Type 0} (way : Way A) (stands : Standing A) (t : Trace) (line : Li
             (λ f. let Q : ℕ → Type 0 = λ c. answer ≡ watch_of (rules_of t r0) (L f) c sig in
             subst Q (clock_at way stands t start history seg agents s s' was was old f) (call (rules_of t r0) (L f) (old.us r0) (had f)))
             (λ f hyp. (hyp, tt))
-            (kept_with way stands t start history seg agents s s' was was old line.number event r0 (λ f r ne. refl) (λ f h. h)),
+            (kept_with way stands t start history seg agents s s' was was old line.number event r0 (λ f r ne. refl) (λ f hyp. hyp) (λ f h. h)),
       )

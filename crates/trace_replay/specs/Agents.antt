@@ -1,10 +1,13 @@
 -- What the agents of all routers do at a barrier and at a query, each with the shelf in turn.
 use Rattle.std.specs.Prelude.{ℕ, ◌-◌, ◌≡◌, ◌≤◌, ◌<◌, Bool, true, List, [], length, None, slice_index_or, slice_get, unwrap_or, option_map}
+use Rattle.std.specs.List.{Contains}
 use Rattle.spie_base.specs.Causes.{RoseBy}
 use Rattle.spie_base.specs.Shown.{Shown}
 use Rattle.spie_base.specs.declared.Rules.{Rules}
-use Rattle.page_shelf.specs.Shelves.{Contents, IsSame}
+use Rattle.page_shelf.specs.Shelves.{ChangesOnly, Contents, IsSame}
+use Rattle.page_shelf.specs.declared.ShelfName.{ShelfName}
 use Rattle.router_account.specs.Ledger.{Ledger, Unfinished, nothing_unfinished, behind_barrier}
+use Rattle.router_account.specs.Readings.{IsReadFrom}
 use Rattle.router_account.specs.Records.{Holds, HoldsBits, ArePageBits, AreTrue, AllFailed}
 use Rattle.router_account.specs.Shelves.{ShelfView, view_of}
 use Rattle.router_account.specs.Sights.{Reading, failures, no_reading}
@@ -55,6 +58,11 @@ pub record IsPassedAt {A : Type 0} (stands : Standing A) (rules : Rules) (clock 
   pub told : IsPassed rules l clock tick b
   pub stands_now : stands new rules (passed rules l clock tick b) nothing_unfinished
 
+-- the name of a record of a page that archivals covered up to a barrier, at one of the routers below i
+pub record IsCoveredBehind (rules : RouterRules) (clock : ℕ) (tick : Bool) (i : ℕ) (barriers : List Barrier) (ls : ℕ → Ledger) (name : ShelfName) : Type 0 where
+  pub router : name.router.number < i
+  pub page : Contains (passed_by rules clock tick barriers ls name.router.number).covered_before name.page.number
+
 -- the routers below i have passed, and the others are as before
 pub record PassesUpTo {A : Type 0} (stands : Standing A) (clock : ℕ) (tick : Bool) (i : ℕ) (old new : List A) (barriers : List Barrier) (before after : ShelfView) : Type 0 where
   pub count : length barriers ≡ i
@@ -70,6 +78,8 @@ pub record PassesUpTo {A : Type 0} (stands : Standing A) (clock : ℕ) (tick : B
       → AreHeld (length old) rules before.contents ls us → (r : ℕ) → r < i → Holds (rules r) after.contents (passed_by rules clock tick barriers ls r)
   pub others : before.tells ≡ true → (rules : RouterRules) (ls : ℕ → Ledger) (us : ℕ → Unfinished) → AllStand stands rules ls us old
       → AreHeld (length old) rules before.contents ls us → (r : ℕ) → i ≤ r → r < length old → IsHeld (rules r) after.contents (ls r) (us r)
+  pub untouched : before.tells ≡ true → (rules : RouterRules) (ls : ℕ → Ledger) (us : ℕ → Unfinished) → AllStand stands rules ls us old
+      → ChangesOnly (IsCoveredBehind rules clock tick i barriers ls) before.contents after.contents
 
 abbrev pub PassesAll : {A : Type 0} → Standing A → (clock : ℕ) → (tick : Bool) → (old new : List A) → List Barrier → (before after : ShelfView) → Type 0
 PassesAll stands clock tick old new barriers before after = PassesUpTo stands clock tick (length old) old new barriers before after
@@ -102,6 +112,8 @@ pub record SeesUpTo {A S : Type 0} (stands : Standing A) (shown : S → Shown) (
       → AllHold (length agents) rules before.contents ls → (r : ℕ) (d : S) → r < i → AreTrue (rules r) (ls r).account (told (slice_index_or sights r d)).reading
   pub only_faults : before.tells ≡ true → (rules : RouterRules) (ls : ℕ → Ledger) (us : ℕ → Unfinished) → AllStand stands rules ls us agents
       → AllHold (length agents) rules before.contents ls → (r : ℕ) (d : S) → r < i → AllFailed (told (slice_index_or sights r d)).reading
+  pub read : (rules : RouterRules) (ls : ℕ → Ledger) (us : ℕ → Unfinished) → AllStand stands rules ls us agents → (r : ℕ) (d : S) → r < i
+      → IsReadFrom (rules r) (ls r).account before after (told (slice_index_or sights r d)).reading
   pub unchanged : before.tells ≡ true → IsSame before.contents after.contents
 
 abbrev pub SeesAll : {A S : Type 0} → Standing A → (S → Shown) → (S → Told) → (time : ℕ) → List A → List S → (before after : ShelfView) → Type 0

@@ -9,7 +9,7 @@ use Rattle.spie_base.specs.Causes.{RoseBy}
 use Rattle.spie_base.specs.declared.Entry.{Entry}
 use Rattle.spie_base.specs.declared.Rules.{Rules}
 use Rattle.spie_base.specs.declared.Sig.{Sig}
-use Rattle.page_shelf.specs.Shelves.{Contents}
+use Rattle.page_shelf.specs.Shelves.{ChangesOnly, Contents}
 use Rattle.trace_format.specs.declared.Line.{Line}
 use Rattle.trace_format.specs.declared.Trace.{Trace}
 use Rattle.trace_format.specs.declared.limits.TheConstants.{MOST_BYTES}
@@ -20,7 +20,8 @@ use Rattle.router_account.specs.Shelves.{ShelfView}
 use Rattle.data_agent.specs.Calls.{Meaning}
 use Rattle.trace_history.specs.History.{Event, History, IsEventOf, IsHistoryOf, account, clock}
 use Rattle.trace_history.specs.Ledgers.{ledger}
-use Rattle.trace_history.specs.Outcomes.{IsAllowed, fault_marks}
+use Rattle.trace_history.specs.Outcomes.{IsAllowed, AreReadDuring, fault_marks}
+use Rattle.trace_history.specs.Replay.{IsCoveredName}
 use Rattle.trace_history.specs.Routers.{count, rules_of, sum_over}
 use Rattle.trace_replay.specs.declared.state.Answer.{Answer}
 use Rattle.trace_replay.specs.Merging.{answers_of, operations}
@@ -54,8 +55,11 @@ pub record IsKeptBeside (t : Trace) (history ops : History) (us : ℕ → Unfini
   pub later : start.faults ≤ now.faults
   pub still : now.tells ≡ start.tells
   pub paid : RoseBy (fault_marks (count t) history + sum_over (count t) (λ r. (us r).refused)) start.faults now.faults
+  pub during : AreReadDuring (count t) start now history
   pub holds : start.tells ≡ true → (f : Splits) (r : ℕ) → r < count t
       → HoldsSoFar (rules_of t r) now.contents (ledger (rules_of t) r (filled f ops history)) (us r)
+  pub untouched : start.tells ≡ true → (f : Splits) → AreSplits t f (filled f ops history)
+      → ChangesOnly (IsCoveredName (count t) (filled f ops history)) start.contents now.contents
 
 -- the agents stand for a history up to a barrier and for the operator's moments behind it, and these are his answers
 pub record Operates {A V : Type 0} (besides : Besides A V) (reads : Reads A) (t : Trace) (start : ShelfView)

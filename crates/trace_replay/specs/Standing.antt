@@ -10,14 +10,16 @@ use Rattle.trace_format.specs.declared.Line.{Line}
 use Rattle.trace_format.specs.declared.Trace.{Trace}
 use Rattle.trace_format.specs.declared.limits.TheConstants.{MOST_BYTES, MOST_RECORDS}
 use Rattle.trace_format.specs.Sound.{FitsClock, FitsOnce, HasTime, IsWithin, is_archived, is_recording}
+use Rattle.page_shelf.specs.Shelves.{ChangesOnly}
 use Rattle.router_account.specs.Ledger.{PutBits, Unfinished, nothing_unfinished}
 use Rattle.router_account.specs.Barriers.{IsSplit, archive_view}
 use Rattle.router_account.specs.Shelves.{ShelfView}
 use Rattle.trace_history.specs.declared.Totals.{Totals}
 use Rattle.trace_history.specs.History.{Event, History, IsEventOf, account, clock}
 use Rattle.trace_history.specs.Ledgers.{ledger, closed_at_archive}
-use Rattle.trace_history.specs.Outcomes.{IsAllowed, EachQuery, HasSameDigests, IsTrueQuery, HasOnlyFaults, fault_marks}
+use Rattle.trace_history.specs.Outcomes.{IsAllowed, EachQuery, HasSameDigests, IsReadQuery, IsTrueQuery, HasOnlyFaults, AreReadDuring, fault_marks}
 use Rattle.trace_history.specs.Receipts.{IsLegalFor, IsLegal, IsSequential, open_at}
+use Rattle.trace_history.specs.Replay.{IsCoveredName}
 use Rattle.trace_history.specs.Report.{AreItemsOf, text_of, totals_of, no_totals}
 use Rattle.trace_history.specs.Routers.{count, rules_of, sum_over}
 use Rattle.trace_history.specs.Watched.{AreSequentialWatches, AreSegmentWatches, AreBetweenWatches}
@@ -94,15 +96,19 @@ pub record IsRight (W : ℕ) (t : Trace) (history seg : History) : Type 0 where
   pub allowed_before : IsAllowed (count t) (rules_of t) history
   pub allowed : (f : Splits) → AreSplits t f (filled f seg history) → IsAllowed (count t) (rules_of t) (filled f seg history)
   pub same_digests : EachQuery (HasSameDigests (count t) (rules_of t)) history
+  pub read : EachQuery (IsReadQuery (count t) (rules_of t)) history
 
 -- what the shelf came to since the start
 pub record IsKeptOn (t : Trace) (history seg : History) (us : ℕ → Unfinished) (start now : ShelfView) : Type 0 where
   pub later : start.faults ≤ now.faults
   pub still : now.tells ≡ start.tells
   pub paid : RoseBy (fault_marks (count t) history + sum_over (count t) (λ r. (us r).refused)) start.faults now.faults
+  pub during : AreReadDuring (count t) start now history
   pub all_true : start.tells ≡ true → EachQuery (IsTrueQuery (count t) (rules_of t)) history
   pub only_faults : start.tells ≡ true → EachQuery (HasOnlyFaults (count t)) history
   pub holds : start.tells ≡ true → (f : Splits) (r : ℕ) → r < count t → IsHeld (rules_of t r) now.contents (ledger (rules_of t) r (filled f seg history)) (us r)
+  pub untouched : start.tells ≡ true → (f : Splits) → AreSplits t f (filled f seg history)
+      → ChangesOnly (IsCoveredName (count t) (filled f seg history)) start.contents now.contents
 
 -- each agent has what its router's workers recorded, segment by segment
 abbrev pub AreGathered : {A : Type 0} → Way A → Trace → (history seg : History) → List A → Type 0

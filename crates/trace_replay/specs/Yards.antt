@@ -5,6 +5,7 @@ use Rattle.spie_base.specs.Shapes.{shape_of}
 use Rattle.spie_base.specs.declared.Rules.{Rules}
 use Rattle.page_gate.specs.Held.{PlaneId}
 use Rattle.router_account.specs.Ledger.{Ledger, Unfinished, first_ledger, nothing_unfinished}
+use Rattle.data_agent.specs.Beside.{out_of}
 use Rattle.data_agent.specs.Planes.{IsOwnPlane, entries_of}
 use Rattle.data_agent.specs.Standing.{StandsFor}
 use Rattle.data_agent.specs.declared.Agent.{Agent}
@@ -21,9 +22,9 @@ pub record AreBeside (planes : List PlaneId) (agents : List Agent) : Type 0 wher
 abbrev pub by_workers : (W : ℕ) → Way Agent
 by_workers W = record { workers = W; entries = entries_of }
 
--- a router's pages: the shape of its plane, and the entries of its agent's keeper
+-- a router's pages: the shape of its plane, and the entries of its agent's keeper and its passes that are out
 abbrev pub yard_view : PlaneId → Agent → YardView
-yard_view plane agent = record { shape = plane.shape; entries = entries_of agent }
+yard_view plane agent = record { shape = plane.shape; entries = entries_of agent; out = out_of agent }
 
 -- those of all routers
 abbrev pub yard_views : List PlaneId → List Agent → List YardView

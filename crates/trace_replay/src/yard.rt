@@ -8,7 +8,7 @@ use std::alloc::Global;
 use std::marker::Model;
 
 /// The planes of a trace's routers and their agents, by router number: what a replay leaves. Contracts see of each router the
-/// shape of its plane and the entries of its agent, in the order in which they were gathered.
+/// shape of its plane, the entries of its agent, in the order in which they were gathered, and how many passes are out.
 ///
 /// Planes and agents stand in two lists, so that several threads can record in the planes while one of them changes the
 /// agents.

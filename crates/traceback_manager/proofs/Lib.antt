@@ -1,1 +1,2 @@
 pub mod RoundFacts
+pub mod JoinFacts

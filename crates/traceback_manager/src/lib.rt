@@ -1,4 +1,4 @@
-//! The manager of a traceback: it asks regions one after another for the floods within them.
+//! The manager of a traceback: it asks regions for the floods within them, one after another or all at once.
 //!
 //! # Rounds
 //!
@@ -12,14 +12,24 @@
 //! lead to it, all rounds together ask what one flood over all routers asks, and the graph is told once, at the end, as
 //! `flood` tells it. Beside that a lead of a round is looked at once for each region, to find its own.
 //!
+//! # All regions at once
+//!
+//! `trace_joined` asks the regions of a round at once, each in a thread of its own. Naming a pair writes to a search, so
+//! each region keeps a search of its own through all rounds, in which it also names the pairs of other regions to which it
+//! leads. What the regions hand out is the next round, in the order of the regions: in which order threads end changes
+//! nothing. At the end what each knows of its own pairs goes into one search, and the graph is told from that.
+//!
 //! # Why the graph is that of the flood
 //!
-//! The order in which leads are followed changes nothing of a search (`IsUnderWay`), and a net has one flood from a pair: so
-//! the contract of `trace` is that of `reverse_flood::flood`, and both give the same graph. Read `specs/Rounds`, then
-//! `traces` and `rounds`.
+//! The order in which leads are followed changes nothing of a search (`IsUnderWay`), and a net has one flood from a pair:
+//! so `trace` and `trace_joined` have the contract of `reverse_flood::flood`, and all three give the same graph. Read
+//! `specs/Rounds`, `traces` and `rounds`; then `specs/Beside`, `joined` and `beside`.
 #![tactic(auto)]
 
+mod beside;
+mod joined;
 mod rounds;
 mod traces;
 
+pub use joined::trace_joined;
 pub use traces::trace;

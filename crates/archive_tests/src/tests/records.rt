@@ -16,9 +16,23 @@ const ROWS: [u8; 30] = [
 
 const NO_ROWS: [u8; 16] = [0x53, 0x50, 0x54, 0x31, 0, 0, 0, 2, 0, 0, 0, 5, 0, 0, 0, 0];
 
+// `SPB2`, router 1, page 2, k 3, n 20, seed 7, opened and closed at 0; the words of the page follow.
+const LARGE_HEAD: [u8; 40] = [
+    0x53, 0x50, 0x42, 0x32, 0, 0, 0, 1, 0, 0, 0, 2, 3, 20, 0, 0, 0, 0, 0, 0, 0, 0, 0, 7, 0, 0, 0,
+    0, 0, 0, 0, 0, 0, 0, 0, 0, 0, 0, 0, 0,
+];
+
+// 2^20 bits.
+const LARGE: usize = 40 + 131_072;
+
+// n, and the place of the refusal behind `SPB2` where the words are not there: `SPB1` has n from 6 to 16, and `SPB2`
+// from 17 to 20.
+const BAD_LARGE: [(u8, usize); 5] = [(6, 13), (16, 13), (17, 40), (20, 40), (21, 13)];
+
 // A place, the byte that is put there, and the place of the refusal.
-const BAD_BITS: [(usize, u8, usize); 11] = [
-    (3, 0x32, 0),
+const BAD_BITS: [(usize, u8, usize); 12] = [
+    (3, 0x32, 13),
+    (3, 0x33, 0),
     (7, 64, 4),
     (12, 0, 12),
     (12, 9, 12),
@@ -106,6 +120,29 @@ fn decodes_and_encodes(rt: HostRuntime) -> Result<(), Fail> {
     Ok(())
 }
 
+// The greatest page: its record is read, and is encoded as it was.
+#[test]
+fn positions_and_records_at_20(rt: HostRuntime) -> Result<(), Fail> {
+    let alloc = rt.alloc();
+    let mut bytes = vec![in alloc; 0u8; LARGE]?;
+    bytes[..40].copy_from_slice(&LARGE_HEAD);
+    bytes[LARGE - 1] = 1;
+    match decode(alloc, &bytes) {
+        Ok(record) => {
+            if let Record::Bits(large) = &record {
+                assert_eq!(rt; large.bits.n(), 20);
+                assert_eq!(rt; large.bits.fill(), 1);
+                assert_eq!(rt; large.bits.words().last(), Some(&1));
+            } else {
+                assert!(rt; false);
+            }
+            assert_eq!(rt; encode(alloc, &record)?.as_slice(), bytes.as_slice());
+        }
+        Err(_) => assert!(rt; false),
+    }
+    Ok(())
+}
+
 // Each field in turn not in its range, or not wholly there.
 #[test]
 fn first_field_that_is_not_good(rt: HostRuntime) -> Result<(), Fail> {
@@ -122,6 +159,13 @@ fn first_field_that_is_not_good(rt: HostRuntime) -> Result<(), Fail> {
             place_with(alloc, &ROWS, at, byte)?,
             Some(expected),
             "rows, {at}"
+        );
+    }
+    for (n, expected) in BAD_LARGE {
+        assert_eq!(rt;
+            place_with(alloc, &LARGE_HEAD, 13, n)?,
+            Some(expected),
+            "n {n}"
         );
     }
     for (len, expected) in CUT_BITS {

@@ -30,7 +30,7 @@ const PUBLISHED: u64 = 6457827717110365317;
 // The marks of a signature for a seed, with k and n brought into their ranges. It has no clause, so that nothing of
 // the formula is computed where the tests are proved.
 fn marks(seed: u64, k: u8, n: u8, sig: &Sig) -> Marks {
-    Family::of(seed, k.max(1).min(8), n.max(6).min(16)).positions(sig)
+    Family::of(seed, k.max(1).min(8), n.max(6).min(20)).positions(sig)
 }
 
 fn seed_of(base: u64, router: u32, page: u32) -> u64 {
@@ -42,8 +42,8 @@ fn seed_and_positions(rt: HostRuntime) {
     assert_eq!(rt; seed_of(0, 0, 0), 0xe220a8397b1dcdaf);
     let mut other = ZEROS;
     other.bytes[3] = 1;
-    for (sig, position) in [(ZEROS, 57888), (other, 20633)] {
-        let marks = marks(0, 1, 16, &sig);
+    for (n, sig, position) in [(16, ZEROS, 57888), (16, other, 20633), (20, ZEROS, 926218)] {
+        let marks = marks(0, 1, n, &sig);
         assert_eq!(rt; marks.at, [position, 0, 0, 0, 0, 0, 0, 0]);
         assert_eq!(rt; marks.count, 1);
     }

@@ -14,4 +14,4 @@ pub returns : goal.returns
 returns c =
     names_of c.args.lane c.args.topology.now _ _ c.args.search.now c.add_lead.new.search c.args.leads.now c.add_lead.new.leads
     (sym (cond-true (is_within c.args.topology.now c.args.bound c.args.node.router.number) (c.args.node ∷ []) [] (sym c.is_inside.ensures ∙ c.if-not-is_inside.false)))
-    c.in_ok-add_lead.ensures
+    c.in_ok-add_lead.ensures.names

@@ -38,7 +38,7 @@ loop-router-preserved g c =
       entries = entries_set entries_of c.args.agents.now c.loop-router.agents i x c.barrier.new.self (omega (arith, n)) so.entries e.entries;
       passed = subst P (sym c.in_ok-push.ensures.items) (passes_more StandsFor c.args.clock c.args.tick i c.args.agents.now c.loop-router.agents c.loop-router.barriers.items
           (get_or c.loop-router.agents i x) x c.barrier.new.self c.in_ok-barrier.barrier (view c.args.shelf.now) (view c.loop-router.shelf) (view c.barrier.new.shelf)
-          (omega (arith, n)) refl so.passed e.later e.still e.told e.passed e.paid e.holds e.others);
+          (omega (arith, n)) refl so.passed e.later e.still e.told e.passed e.paid e.holds e.others e.untouched);
     }
 
 pub loop-router-init : goal.loop-router-init
@@ -55,5 +55,6 @@ loop-router-init g c = record {
     paid = λ rules ls us all. omega arith;
     holds = λ t rules ls us all held r l. absurd (omega (arith, l));
     others = λ t rules ls us all held r l m. held r m;
+    untouched = λ t rules ls us all name apart. refl;
   };
 }

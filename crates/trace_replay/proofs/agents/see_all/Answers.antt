@@ -24,4 +24,4 @@ loop-agent-preserved g c =
     let P = λ (ss : List Sight). SeesUpTo StandsFor shown_by told_by c.args.time (c.loop-agent.agent-index + 1) c.args.agents.now ss (view c.args.shelf.now) (view c.sight.new.shelf) in
     subst P (sym c.in_ok-push.ensures.items) (sees_more StandsFor shown_by told_by c.args.time c.loop-agent.agent-index c.args.agents.now c.loop-agent.sights.items
     c.agent-item.result c.agent-item.result c.in_ok-sight.sight (view c.args.shelf.now) (view c.loop-agent.shelf) (view c.sight.new.shelf)
-    c.loop-agent-test.true c.agent-item.is c.loop-agent.invariant e.later e.still e.seen e.paid e.all_true e.only_faults e.unchanged)
+    c.loop-agent-test.true c.agent-item.is c.loop-agent.invariant e.later e.still e.seen e.paid e.all_true e.only_faults e.read_from e.unchanged)

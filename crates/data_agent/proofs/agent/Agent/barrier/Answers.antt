@@ -7,7 +7,7 @@ pub take_all-requires-clause-stands : goal.take_all-requires-clause-stands
 take_all-requires-clause-stands g c = let (rules, l, u, s, late, room) = c.requires.ready in (rules, l, s.amid)
 
 pub returns-in_err-take_all-clause-recorded : goal.returns-in_err-take_all-clause-recorded
-returns-in_err-take_all-clause-recorded g c = on_err _ (recorded_same c.args.self.now c.take_all.new.self c.take_all.ensures.same)
+returns-in_err-take_all-clause-recorded g c = on_err _ (recorded_same c.args.self.now c.take_all.new.self c.args.clock c.take_all.ensures.same)
 
 pub pass-requires-clause-ready : goal.pass-requires-clause-ready
 pass-requires-clause-ready g c = let (rules, l, u, s, late, room) = c.requires.ready in (rules, l, u, c.in_ok-take_all.ensures.whole rules l u s, late, room)
@@ -26,6 +26,9 @@ returns-clause-holds g c = if_ok c.pass.result (λ b holds rules l u s. holds ru
 
 pub returns-clause-others : goal.returns-clause-others
 returns-clause-others g c = on_ok c.pass.result (λ others rules l u s. others rules l u (c.in_ok-take_all.ensures.whole rules l u s)) c.pass.ensures.others
+
+pub returns-clause-untouched : goal.returns-clause-untouched
+returns-clause-untouched g c = if_ok c.pass.result (λ b untouched rules l u s. untouched rules l u (c.in_ok-take_all.ensures.whole rules l u s)) c.pass.ensures.untouched
 
 pub returns-clause-recorded : goal.returns-clause-recorded
 returns-clause-recorded g c = on_err_from c.pass.result (λ recorded rules l u s. recorded rules l u (c.in_ok-take_all.ensures.whole rules l u s)) c.pass.ensures.recorded

@@ -24,7 +24,7 @@ pub due_bits-requires-clause-stands : goal.due_bits-requires-clause-stands
 due_bits-requires-clause-stands c = let (rules, l, u, s, late, room) = c.requires.ready in (rules, l, s.stands)
 
 pub returns-in_err-renew-clause-recorded : goal.returns-in_err-renew-clause-recorded
-returns-in_err-renew-clause-recorded c = on_err _ (recorded_before c.args.self.now c.due_bits.new.self c.renew.new.self c.due_bits.ensures.same c.in_err-renew.ensures.recorded)
+returns-in_err-renew-clause-recorded c = on_err _ (recorded_before c.args.self.now c.due_bits.new.self c.renew.new.self c.args.clock c.due_bits.ensures.same c.in_err-renew.ensures.recorded)
 
 pub returns-then-not-tick-clause-ticked : goal.returns-then-not-tick-clause-ticked
 returns-then-not-tick-clause-ticked c = λ rules l u s.

@@ -3,7 +3,7 @@ use Rattle.router_account.specs.Shelves.{ShelfView}
 use Rattle.shelved_page.specs.Shelving.{view_of}
 use Rattle.shelved_page.proofs.Backs.{gets_then}
 use Rattle.data_agent.specs.Looking.{LooksTo}
-use Rattle.data_agent.proofs.Looks.{looks_more}
+use Rattle.data_agent.proofs.LooksMore.{looks_more}
 use Rattle.data_agent.proofs.agent.Agent.looks.Goals as goal
 
 pub pages-preserved : goal.pages-preserved

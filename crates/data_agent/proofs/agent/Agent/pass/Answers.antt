@@ -1,15 +1,16 @@
 use Rattle.std.proofs.Common.{◌-◌, sym, subst, map}
 use Rattle.spie_base.specs.Causes.{RoseBy}
 use Rattle.spie_base.specs.declared.Rules.{Rules}
+use Rattle.page_shelf.specs.Shelves.{ChangesOnly}
 use Rattle.router_account.specs.Ledger.{Ledger, Unfinished, behind_barrier, nothing_unfinished}
 use Rattle.router_account.specs.Records.{Holds}
 use Rattle.router_account.specs.Shelves.{ShelfView}
 use Rattle.shelved_page.specs.Shelving.{view_of}
-use Rattle.data_agent.specs.Calls.{IsLate, IsPassed, marks_of, number_of, split_by}
+use Rattle.data_agent.specs.Calls.{IsLate, IsPassed, IsPassedName, marks_of, number_of, split_by}
 use Rattle.data_agent.specs.Finishing.{finished_at}
 use Rattle.data_agent.specs.Passing.{StandsForSame, ticked_at}
 use Rattle.data_agent.specs.Standing.{StandsWhole}
-use Rattle.data_agent.proofs.Barring.{Parts, holds, others, outcome_of, paid, passed, recorded_expired, told}
+use Rattle.data_agent.proofs.Barring.{Parts, holds, others, outcome_of, paid, passed, recorded_expired, told, untouched}
 use Rattle.data_agent.proofs.Planes.{own_same, recorded_whole}
 use Rattle.data_agent.proofs.Results.{on_err}
 use Rattle.data_agent.proofs.agent.Agent.pass.Goals as goal
@@ -33,11 +34,11 @@ pub returns-clause-own : goal.returns-clause-own
 returns-clause-own g c = own_same c.args.plane.now c.close.new.self c.expire.new.self c.close.ensures.own c.expire.ensures.plane
 
 pub returns-in_err-archived-clause-recorded : goal.returns-in_err-archived-clause-recorded
-returns-in_err-archived-clause-recorded g c = on_err _ (recorded_whole c.args.self.now c.finish.new.self c.in_err-archived.ensures.same)
+returns-in_err-archived-clause-recorded g c = on_err _ (recorded_whole c.args.self.now c.finish.new.self c.args.clock c.in_err-archived.ensures.same)
 
 pub returns-in_err-closed-clause-recorded : goal.returns-in_err-closed-clause-recorded
 returns-in_err-closed-clause-recorded g c =
-    let recorded : (rules : Rules) (l : Ledger) (u : Unfinished) → StandsWhole c.args.self.now rules l u → StandsForSame c.close.new.self rules l = λ rules l u s.
+    let recorded : (rules : Rules) (l : Ledger) (u : Unfinished) → StandsWhole c.args.self.now rules l u → StandsForSame c.close.new.self rules l c.args.clock = λ rules l u s.
     c.in_err-closed.ensures.recorded rules (finished_at l (split_by c.in_ok-archived.archived)) nothing_unfinished (c.in_ok-archived.ensures.finished rules l u s).stands in
     on_err _ recorded
 
@@ -52,7 +53,7 @@ expire-requires-clause-stands g c =
 
 pub returns-in_err-left-clause-recorded : goal.returns-in_err-left-clause-recorded
 returns-in_err-left-clause-recorded g c =
-    let recorded : (rules : Rules) (l : Ledger) (u : Unfinished) → StandsWhole c.args.self.now rules l u → StandsForSame c.expire.new.self rules l = λ rules l u s.
+    let recorded : (rules : Rules) (l : Ledger) (u : Unfinished) → StandsWhole c.args.self.now rules l u → StandsForSame c.expire.new.self rules l c.args.clock = λ rules l u s.
     let f = c.in_ok-archived.ensures.finished rules l u s in
     let t = c.in_ok-closed.ensures.ticked rules (finished_at l (split_by c.in_ok-archived.archived)) nothing_unfinished f.stands in
     recorded_expired c.close.new.self c.expire.new.self rules l (split_by c.in_ok-archived.archived) c.args.clock c.args.tick t.stands
@@ -144,3 +145,21 @@ returns-clause-others g c = λ rules l u s tells.
       noted = c.expire.ensures.noted;
     } in
     others c.args.self.now c.close.new.self c.expire.new.self c.finish.new.self rules l u c.args.clock c.args.tick c.in_ok-archived.archived c.in_ok-closed.closed c.in_ok-left.left.items x y z p c.finish.ensures.still tells
+
+pub returns-clause-untouched : goal.returns-clause-untouched
+returns-clause-untouched g c = λ rules l u s tells.
+    let x : ShelfView = view_of g.H.Shelf.tells g.H.Shelf.contents g.H.Shelf.faults c.args.shelf.now in
+    let y : ShelfView = view_of g.H.Shelf.tells g.H.Shelf.contents g.H.Shelf.faults c.finish.new.shelf in
+    let z : ShelfView = view_of g.H.Shelf.tells g.H.Shelf.contents g.H.Shelf.faults c.expire.new.shelf in
+    let f = c.in_ok-archived.ensures.finished rules l u s in
+    let t = c.in_ok-closed.ensures.ticked rules (finished_at l (split_by c.in_ok-archived.archived)) nothing_unfinished f.stands in
+    let m : Ledger = ticked_at rules (finished_at l (split_by c.in_ok-archived.archived)) c.args.clock c.args.tick in
+    let p : Parts c.args.self.now c.close.new.self c.expire.new.self rules l u c.args.clock c.args.tick c.in_ok-archived.archived c.in_ok-closed.closed c.in_ok-left.left.items c.finish.new.self x y z = record {
+      finished = f;
+      ticked = t;
+      expired = c.in_ok-left.ensures.discarded rules m t.stands.stands;
+      stands = c.expire.ensures.expired rules m t.stands.stands;
+      noted = c.expire.ensures.noted;
+    } in
+    subst (λ left. ChangesOnly (IsPassedName rules l (behind_barrier rules l c.args.clock c.args.tick (split_by c.in_ok-archived.archived) (map number_of left)) (split_by c.in_ok-archived.archived)) x.contents z.contents) (sym c.of.ensures)
+    (untouched c.args.self.now c.close.new.self c.expire.new.self c.finish.new.self rules l u c.args.clock c.args.tick c.in_ok-archived.archived c.in_ok-closed.closed c.in_ok-left.left.items x y z p c.finish.ensures.still tells)

@@ -8,7 +8,7 @@ pub rotate_alone-requires-clause-ready : goal.rotate_alone-requires-clause-ready
 rotate_alone-requires-clause-ready c = may_turn_whole c.args.self.now c.args.clock c.requires.ready
 
 pub returns-in_err-rotate_alone-clause-recorded : goal.returns-in_err-rotate_alone-clause-recorded
-returns-in_err-rotate_alone-clause-recorded c = on_err _ (recorded_for c.args.self.now c.rotate_alone.new.self c.in_err-rotate_alone.ensures.same)
+returns-in_err-rotate_alone-clause-recorded c = on_err _ (recorded_for c.args.self.now c.rotate_alone.new.self c.args.clock c.in_err-rotate_alone.ensures.same)
 
 pub take_all-requires-clause-stands : goal.take_all-requires-clause-stands
 take_all-requires-clause-stands c =

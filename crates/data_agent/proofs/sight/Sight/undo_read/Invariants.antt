@@ -5,4 +5,7 @@ use Rattle.data_agent.proofs.sight.Sight.undo_read.Given as goal
 
 -- what the pages so far say was added
 abbrev pub invariant-loop-look : goal.invariant-loop-look
-invariant-loop-look l = l.olds.items ≡ l.fn.olds.items ++ flat_map (undone_by l.sig) (take l.look-index l.self.looks.items)
+invariant-loop-look l = record {
+  sig : l.origins.sig ≡ l.fn.origins.sig;
+  more : l.origins.olds ≡ l.fn.origins.olds ++ flat_map (undone_by l.fn.origins.sig) (take l.look-index l.self.looks.items);
+}
