@@ -1,7 +1,7 @@
-// Scripts that are read and played, and texts that are refused, each with its first fault.
+// Scripts that are read and played, and the longest ones that are refused. What scripts are answered, and all other faults,
+// are rows of `run_rows`.
 mod accepted_scripts;
-mod answer_texts;
-mod line_faults;
+mod longest_inputs;
 mod machine;
+mod pages_left;
 mod pieces;
-mod size_faults;

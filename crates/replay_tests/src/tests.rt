@@ -1,6 +1,6 @@
-// Replays by one worker, and lines that are held among several.
+// Replays by one worker, and lines that are held among several. Reports, also those of several workers, are rows of
+// `run_rows`.
 mod held_lines;
-mod one_report;
 
 use page_shelf::MemShelf;
 use spie_base::PageNo;
@@ -12,11 +12,6 @@ use trace_replay::{Yard, has_query, replay_alone, sights_alone};
 // One packet along three routers in a line, and a query behind it.
 const THREE_IN_A_LINE: &[u8] =
     b"spie-trace 1\nshape 3 16 60000 1000 8 5000 100 0123456789abcdef\nrouter a east\nrouter b east\nrouter c west\nlink a b\nlink b c\nbegin\npacket 4500001c00010000401166ce0a0000010a0000020102030405060708\nfwd a 0\nfwd b 0\nfwd c 0\nquery c 0 0\nend\n";
-
-// A record, a rotation and an archival of the page that it closed, and a record and a watch behind it; then a record that
-// waits for nothing.
-const BEHIND_AN_ARCHIVAL: &[u8] =
-    b"spie-trace 1\nshape 3 16 60000 1000 8 5000 100 0123456789abcdef\nrouter a east\nbegin\npacket 4500001c00010000401166ce0a0000010a0000020102030405060708\nfwd a 0\nrotate a\narchive a\nfwd a 0\nwatch a 0\ntick 1\nfwd a 0\nend\n";
 
 const PAGE_0: PageNo = PageNo { number: 0 };
 
@@ -65,21 +60,5 @@ fn lines_of_queries(rt: HostRuntime) -> Result<(), Fail> {
     assert_eq!(rt; has_query(&trace, 12), false);
     assert_eq!(rt; has_query(&trace, 13), true);
     assert_eq!(rt; has_query(&trace, 14), false);
-    Ok(())
-}
-
-// What stands behind an archival waits for the barrier with it, and the lines keep their order.
-#[test]
-fn lines_behind_an_archival(rt: HostRuntime) -> Result<(), Fail> {
-    let alloc = rt.alloc();
-    let Ok(trace) = read_trace(alloc, BEHIND_AN_ARCHIVAL) else {
-        return Err(Fail::from("refused"));
-    };
-    let mut shelf = MemShelf::new(alloc, &[])?;
-    let mut yard = Yard::new(alloc)?;
-    let replayed = replay_alone(alloc, &trace, &mut shelf, &mut yard, Vec::new(alloc))?;
-    let report =
-        b"spie-report 1\n6 in 0\n7 opened 1\n8 archived a put 0 kept -\n9 in 1\n10 seen\n11 tick 1\n12 in 1\n13 end\n";
-    assert_eq!(rt; replayed.report.items(), report.as_slice());
     Ok(())
 }

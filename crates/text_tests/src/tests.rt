@@ -1,8 +1,6 @@
-// Traces that are read, texts that are refused, each with its first fault, and the lines of reports.
+// Traces that are read, the largest inputs that are refused, and the lines of reports. All other texts and their faults
+// are rows of `run_rows`.
 mod accepted_traces;
-mod line_faults;
+mod largest_inputs;
 mod parts_of_texts;
-mod pieces;
-mod refused_texts;
 mod report_lines;
-mod size_faults;

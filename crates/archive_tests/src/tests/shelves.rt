@@ -15,6 +15,9 @@ fn name(router: u32, page: u32, part: ShelfPart) -> ShelfName {
     }
 }
 
+// How many bytes are asked for of three, and how many come.
+const LENGTHS: [(usize, usize); 5] = [(3, 3), (2, 3), (1, 2), (0, 1), (usize::MAX, 3)];
+
 // Files of a folder: what was put is got, a longer one as one byte more than asked for, and nothing is left behind.
 #[test]
 fn folder(rt: HostRuntime) -> Result<(), Fail> {
@@ -38,7 +41,7 @@ fn folder(rt: HostRuntime) -> Result<(), Fail> {
         fs::read(&rt, "shelf_folder_of_a_test/0000002a-00000007.bits")?.as_slice(),
         [1, 2, 3].as_slice()
     );
-    for (most, count) in [(3, 3), (2, 3), (1, 2), (0, 1), (usize::MAX, 3)] {
+    for (most, count) in LENGTHS {
         match shelf.get(alloc, &bits, most) {
             Ok(Some(got)) => assert_eq!(rt;
                 got.as_slice(),
@@ -110,24 +113,25 @@ fn a_folder_in_the_place_of_a_file(rt: HostRuntime) -> Result<(), Fail> {
     Ok(())
 }
 
+const WHOLE: &[u8] = &[1, 2, 3];
+
+// How a get is bent, and what of `WHOLE` comes of it.
+const BENT: [(Bend, Option<&[u8]>); 3] = [
+    (Bend::Flip, Some(&[1, 2, 2])),
+    (Bend::Cut, Some(&[1, 2])),
+    (Bend::Gone, None),
+];
+
 // The get of one number is bent, gets counted from 0.
 #[test]
 fn bends(rt: HostRuntime) -> Result<(), Fail> {
     let alloc = rt.alloc();
     let bits = name(0, 0, ShelfPart::Bits);
-    for (bend, expected) in [
-        (Bend::Flip, Some([1, 2, 2].as_slice())),
-        (Bend::Cut, Some([1, 2].as_slice())),
-        (Bend::Gone, None),
-    ] {
+    for (bend, expected) in BENT {
         let mut shelf = BentShelf::bending(MemShelf::new(alloc, &[])?, 1, bend);
-        assert_eq!(rt; shelf.put(alloc, &bits, &[1, 2, 3]), Ok(()));
+        assert_eq!(rt; shelf.put(alloc, &bits, WHOLE), Ok(()));
         for number in 0..3 {
-            let wanted = if number == 1 {
-                expected
-            } else {
-                Some([1, 2, 3].as_slice())
-            };
+            let wanted = if number == 1 { expected } else { Some(WHOLE) };
             match shelf.get(alloc, &bits, 3) {
                 Ok(Some(got)) => assert_eq!(rt; Some(got.as_slice()), wanted),
                 Ok(None) => assert!(rt; wanted.is_none()),

@@ -9,13 +9,14 @@ const KEEPER: Actor = Actor::Keeper;
 
 const ZERO: Sig = Sig { bytes: [0; 28] };
 
+const GREATEST: &[u8] =
+    b"spie-play 1\ncore 16 8 16 FEdcba9876543210\n15 enter 000102030405060708090A0B0C0D0E0F101112131415161718191a1b\nk look\nk drain 3\nk probe 3 65535\nk probe 0 0\nend\n";
+
 // The ends of each range, and digits of either case.
 #[test]
 fn greatest_numbers(rt: std::rt::HostRuntime) -> Result<(), Fail> {
     let alloc = rt.alloc();
-    let text =
-        "spie-play 1\ncore 16 8 16 FEdcba9876543210\n15 enter 000102030405060708090A0B0C0D0E0F101112131415161718191a1b\nk look\nk drain 3\nk probe 3 65535\nk probe 0 0\nend\n";
-    let script = read_play(alloc, text.as_bytes()).ok().ok_or("refused")?;
+    let script = read_play(alloc, GREATEST).ok().ok_or("refused")?;
     let shape = PageShape {
         k: 8,
         n: 16,
@@ -40,14 +41,16 @@ fn greatest_numbers(rt: std::rt::HostRuntime) -> Result<(), Fail> {
     Ok(())
 }
 
+const COUNTS: [usize; 4] = [0, 1, 99_999, 100_000];
+
 // No step, and as many as there may be.
 #[test]
 fn fewest_and_most_steps(rt: std::rt::HostRuntime) -> Result<(), Fail> {
     let alloc = rt.alloc();
-    for count in [0, 1, 99_999, 100_000] {
+    for count in COUNTS {
         let text = text_of(
             alloc,
-            &[(1, HEAD), (1, CORE), (count, "1 set\n"), (1, "end\n")],
+            &[(1, HEAD), (1, CORE), (count, b"1 set\n"), (1, b"end\n")],
         )?;
         let script = read_play(alloc, &text).ok().ok_or("refused")?;
         assert_eq!(rt; script.steps.items().len(), count);

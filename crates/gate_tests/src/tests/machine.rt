@@ -30,7 +30,7 @@ fn one_step(rt: std::rt::HostRuntime) -> Result<(), Fail> {
 }
 
 // A record in the open page, and another page after it.
-const ROUND: &str = "0 look
+const ROUND: &[u8] = b"0 look
 0 enter 00000000000000000000000000000000000000000000000000000000
 0 set
 0 leave
@@ -44,10 +44,10 @@ k point
 #[test]
 fn a_hundred_thousand_steps(rt: std::rt::HostRuntime) -> Result<(), Fail> {
     let alloc = rt.alloc();
-    let core = "core 1 1 6 0000000000000000\n";
+    let core = b"core 1 1 6 0000000000000000\n".as_slice();
     let text = text_of(
         alloc,
-        &[(1, HEAD), (1, core), (11_111, ROUND), (1, "end\n")],
+        &[(1, HEAD), (1, core), (11_111, ROUND), (1, b"end\n")],
     )?;
     let script = read_play(alloc, &text).ok().ok_or("refused")?;
     assert_eq!(rt; script.steps.items().len(), 99_999);

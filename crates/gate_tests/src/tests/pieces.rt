@@ -5,18 +5,18 @@ use std::test::Fail;
 use trace_format::{ReadTraceRefused, TraceRefused};
 
 // The first line, and the second: two passes, and pages of 256 positions.
-pub const HEAD: &str = "spie-play 1\n";
+pub const HEAD: &[u8] = b"spie-play 1\n";
 
-pub const CORE: &str = "core 2 3 8 0123456789abcdef\n";
+pub const CORE: &[u8] = b"core 2 3 8 0123456789abcdef\n";
 
 // A piece of a text: so many times this text.
-pub type Piece = (usize, &'static str);
+pub type Piece = (usize, &'static [u8]);
 
 pub fn text_of(alloc: Global, pieces: &[Piece]) -> Result<Vec<u8>, AllocError> {
     let mut text = Vec::new(alloc);
     for (count, line) in pieces {
         for _ in 0..*count {
-            text.extend_from_slice(line.as_bytes())?;
+            text.extend_from_slice(line)?;
         }
     }
     Ok(text)

@@ -15,6 +15,8 @@ const ROUTERS: [(&[u8], &[u8], u32); 3] = [
 // names with the numbers of the routers linked with them
 const LINKED: [(&[u8], &[u32]); 3] = [(b"a", &[1]), (b"b", &[0, 2]), (b"c", &[1])];
 
+const NAMES: [&[u8]; 3] = [b"a", b"b", b"c"];
+
 // links that are refused where a and b are linked
 const REFUSED: [(&[u8], &[u8], TopologyRefused); 5] = [
     (b"d", b"d", TopologyRefused::NoSuchName),
@@ -65,7 +67,7 @@ fn finds_names_that_are_alike(rt: HostRuntime) -> Result<(), Fail> {
 fn links_both_ways(rt: HostRuntime) -> Result<(), Fail> {
     let alloc = rt.alloc();
     let mut topology = Topology::new(alloc)?;
-    for name in [b"a", b"b", b"c"] {
+    for name in NAMES {
         assert!(rt; topology.add_router(alloc, name, b"east").is_ok());
     }
     assert_eq!(rt; topology.add_link(alloc, b"c", b"b"), Ok(()));
@@ -85,7 +87,7 @@ fn links_both_ways(rt: HostRuntime) -> Result<(), Fail> {
 fn refuses_in_order(rt: HostRuntime) -> Result<(), Fail> {
     let alloc = rt.alloc();
     let mut topology = Topology::new(alloc)?;
-    for name in [b"a", b"b", b"c"] {
+    for name in NAMES {
         assert!(rt; topology.add_router(alloc, name, b"east").is_ok());
     }
     assert_eq!(rt; topology.add_link(alloc, b"a", b"b"), Ok(()));

@@ -1,5 +1,4 @@
 // Texts that are traces, and what is read from them.
-use super::pieces::text_of;
 use packet_signature::Kind;
 use spie_base::{RouterId, Rules};
 use std::rt::HostRuntime;
@@ -12,8 +11,13 @@ const B: RouterId = RouterId { number: 1 };
 
 const C: RouterId = RouterId { number: 2 };
 
-const EACH_LINE: &str =
-    "@packets;xf b frag 0 0~xf b nat 0 1~xf c icmp 0 1~xf c ipip 0 2~xf a decap 2 0~rotate a~archive b~watch c 2~tick 281474976710655~query b 1 281474976710655~fwd c 2~end~";
+// Three routers in a line, no packet and no record.
+const EMPTY: &[u8] =
+    b"spie-trace 1\nshape 3 16 60000 1000 8 5000 100 0123456789abcdef\nrouter a east\nrouter b east\nrouter c west\nlink a b\nlink b c\nbegin\nend\n";
+
+// Packets of protocol 17, 1 and 4, and each line that may stand behind them.
+const EACH_LINE: &[u8] =
+    b"spie-trace 1\nshape 3 16 60000 1000 8 5000 100 0123456789abcdef\nrouter a east\nrouter b east\nrouter c west\nlink a b\nlink b c\nbegin\npacket 4500001c00010000401166ce0a0000010a0000020102030405060708\npacket 4500001c00010000400100000a0000010a0000020102030405060708\npacket 450000300005000040040000c6336401c63364024500001c00010000\nxf b frag 0 0\nxf b nat 0 1\nxf c icmp 0 1\nxf c ipip 0 2\nxf a decap 2 0\nrotate a\narchive b\nwatch c 2\ntick 281474976710655\nquery b 1 281474976710655\nfwd c 2\nend\n";
 
 // What `EACH_LINE` asks for from its line 12 on.
 const ASKED: [What; 12] = [
@@ -82,8 +86,7 @@ const RULES: Rules = Rules {
 #[test]
 fn each_line(rt: HostRuntime) -> Result<(), Fail> {
     let alloc = rt.alloc();
-    let text = text_of(alloc, EACH_LINE)?;
-    let trace = read_trace(alloc, &text).ok().ok_or("refused")?;
+    let trace = read_trace(alloc, EACH_LINE).ok().ok_or("refused")?;
     assert_eq!(rt; trace.lines.items().len(), 12);
     let mut number = 12;
     for (line, asked) in trace.lines.items().iter().zip(&ASKED) {
@@ -99,8 +102,7 @@ fn each_line(rt: HostRuntime) -> Result<(), Fail> {
 #[test]
 fn empty_trace(rt: HostRuntime) -> Result<(), Fail> {
     let alloc = rt.alloc();
-    let text = text_of(alloc, "@declared;begin~end~")?;
-    let trace = read_trace(alloc, &text).ok().ok_or("refused")?;
+    let trace = read_trace(alloc, EMPTY).ok().ok_or("refused")?;
     assert_eq!(rt; trace.rules, RULES);
     assert_eq!(rt; trace.topology.routers(), 3);
     assert_eq!(rt; trace.topology.regions(), 2);
@@ -114,60 +116,45 @@ fn empty_trace(rt: HostRuntime) -> Result<(), Fail> {
     Ok(())
 }
 
-// A checksum that is right, and one that is not set; the shortest and the longest packet; the most bytes of a line.
-#[test]
-fn accepted_texts(rt: HostRuntime) -> Result<(), Fail> {
-    let alloc = rt.alloc();
-    for pieces in [
-        "@begun;$;fwd a 0~fwd b 0~fwd c 0~query c 0 0~end~",
-        "@begun;packet 4500001c00010000401100000a0000010a0000020102030405060708~fwd a 0~end~",
-        "@begun;packet 4500001400010000401100000a0000010a000002~fwd a 0~end~",
-        "@begun;packet 4500001c00010000401100000a0000010a000002;1480*Ab;~fwd a 0~end~",
-        "@begun;$;archive a~archive b~tick 1~archive a~query a 0 0~end~",
-    ] {
-        let text = text_of(alloc, pieces)?;
-        assert!(rt; read_trace(alloc, &text).is_ok(), "at {pieces:?}");
-    }
-    Ok(())
-}
+// The rules of a router that has pages of its own.
+const OWN: Rules = Rules {
+    k: 1,
+    n: 20,
+    limit: 1_048_576,
+    span: 1000,
+    keep: 8,
+    age: 5000,
+    width: 100,
+    base: 0x0123_4567_89ab_cdef,
+};
 
 // A trace of each version, with the rules of its second router and the delay of its link.
+const VERSIONS: [(&[u8], Rules, u32); 3] = [
+    (
+        b"spie-trace 1\nshape 3 16 60000 1000 8 5000 100 0123456789abcdef\nrouter a east\nrouter b east\nlink a b\nbegin\nend\n",
+        RULES,
+        0,
+    ),
+    (
+        b"spie-trace 2\nshape 3 16 60000 1000 8 5000 100 0123456789abcdef\nrouter a east\nrouter b east\nlink a b\npages b 1 20 1048576\nbegin\nend\n",
+        OWN,
+        0,
+    ),
+    (
+        b"spie-trace 3\nshape 3 16 60000 1000 8 5000 100 0123456789abcdef\nrouter a east\nrouter b east\npages b 1 20 1048576\nlink b a 4294967295\nbegin\nend\n",
+        OWN,
+        u32::MAX,
+    ),
+];
+
 #[test]
 fn each_version(rt: HostRuntime) -> Result<(), Fail> {
-    let alloc = rt.alloc();
-    let own = Rules {
-        k: 1,
-        n: 20,
-        limit: 1 << 20,
-        ..RULES
-    };
-    for (pieces, rules, delay) in [
-        ("@started 1;link a b~begin~end~", RULES, 0),
-        (
-            "@started 2;link a b~pages b 1 20 1048576~begin~end~",
-            own,
-            0,
-        ),
-        (
-            "@started 3;pages b 1 20 1048576~link b a 4294967295~begin~end~",
-            own,
-            u32::MAX,
-        ),
-    ] {
-        let text = text_of(alloc, pieces)?;
-        let trace = read_trace(alloc, &text).ok().ok_or("refused")?;
-        assert_eq!(rt;
-            trace.shapes.items(),
-            [RULES, rules].as_slice(),
-            "at {pieces:?}"
-        );
+    for (text, rules, delay) in &VERSIONS {
+        let trace = read_trace(rt.alloc(), text).ok().ok_or("refused")?;
+        assert_eq!(rt; trace.shapes.items(), [RULES, *rules].as_slice());
         let one = trace.topology.find(b"a").ok_or("a")?;
         let other = trace.topology.find(b"b").ok_or("b")?;
-        assert_eq!(rt;
-            trace.topology.delay(one, other),
-            Some(delay),
-            "at {pieces:?}"
-        );
+        assert_eq!(rt; trace.topology.delay(one, other), Some(*delay));
     }
     Ok(())
 }

@@ -1,4 +1,0 @@
-mod families;
-mod headers;
-mod pages;
-mod signatures;
