@@ -68,6 +68,32 @@ for script in "$here"/*.script; do
     cmp -s "$out" "${script%.script}.report" || { echo "$script: other answers"; failed=1; }
 done
 
+# A capture is what its bytes say, and its lines make a trace.
+hex=$(mktemp) trace=$(mktemp)
+for capture in "$here"/*.pcap; do
+    plain=${capture%.pcap}
+    sed 's/#.*//' "$plain.hex" | tr -d ' \n' > "$hex"
+    [ "$(od -An -v -tx1 "$capture" | tr -d ' \n')" = "$(cat "$hex")" ] || { echo "$capture: other bytes"; failed=1; }
+    "$spie" pcap edge 0 0 < "$capture" > "$out" 2> "$err"
+    check "$capture" 0 $?
+    cmp -s "$out" "$plain.lines" || { echo "$capture: other lines"; failed=1; }
+    printf 'spie-trace 1\nshape 3 16 32768 60 10 600 30 5d1e7f03c2a94b86\nrouter edge isp\nbegin\n' > "$trace"
+    cat "$out" >> "$trace"
+    printf 'query edge 0 0\nend\n' >> "$trace"
+    "$spie" replay 1 < "$trace" > "$out" 2> "$err"
+    check "a trace of $capture" 0 $?
+    grep -q 'answer nodes 1 edges 0 unknown 0 clear 0' "$out" || { echo "a trace of $capture: another answer"; failed=1; }
+    "$spie" pcap count < "$capture" > "$out" 2> "$err"
+    check "counts of $capture" 0 $?
+    cmp -s "$out" "$plain.counts" || { echo "$capture: other counts"; failed=1; }
+done
+rm -f "$hex" "$trace"
+
+printf 'spie-trace 1\n' | "$spie" pcap count > "$out" 2> "$err"
+check "no capture" 3 $?
+says "no capture" "spie: a capture begins with a header of 24 bytes"
+[ "$(cat "$out")" = "refused 13 short" ] || { echo "no capture: another refusal"; failed=1; }
+
 "$spie" replay 0 < /dev/null > "$out" 2> "$err"
 check "wrong arguments" 2 $?
 says "wrong arguments" "usage: spie replay W"

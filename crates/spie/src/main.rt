@@ -1,7 +1,8 @@
-//! spie: replays a trace of a hash-based traceback system, or plays a script of steps of a router's gate, from
-//! standard input to standard output.
+//! spie: replays a trace of a hash-based traceback system, makes lines of a trace from a capture of packets, or plays a script
+//! of steps of a router's gate, from standard input to standard output.
 //!
-//! `spie replay W < trace > report`, `spie replay W FOLDER < trace > report`, `spie play < script > answers`. W is the
+//! `spie replay W < trace > report`, `spie replay W FOLDER < trace > report`, `spie play < script > answers`,
+//! `spie pcap NAME FIRST SKIP < capture > lines`, `spie pcap count < capture`. W is the
 //! number of workers, 1 to 16. Pages that are archived go to files in FOLDER, which has to be there, and without it to memory. It ends with the number of
 //! the run's status: 0 done, 2 unknown command or wrong arguments, 3 the input is refused, 4 the input can't be read,
 //! 5 the output can't be written, 6 there is no memory. Standard error says the same in a sentence.
@@ -57,6 +58,14 @@ fn run_over<R: Threads + Wait + Sync, S: Source, K: Sink, H: Shelf + Send + Drop
     run(rt, alloc, words, source, sink, &mut shelf, &mut yard)
 }
 
+// Whether the arguments are those of a capture.
+fn is_capture(words: &[String]) -> bool {
+    match words.first() {
+        Some(word) => word.as_str() == "pcap",
+        None => false,
+    }
+}
+
 fn main(rt: HostRuntime) -> ExitCode {
     let alloc = rt.alloc();
     let Ok(words) = words(&rt, alloc) else {
@@ -74,6 +83,6 @@ fn main(rt: HostRuntime) -> ExitCode {
             run_over(&rt, alloc, &words, &mut source, &mut sink, shelf)
         }
     };
-    let _ = explain(&rt, status, sink.front());
+    let _ = explain(&rt, status, sink.front(), is_capture(&words));
     ExitCode::from(status.code())
 }

@@ -5,6 +5,8 @@ const USAGE: &str =
     "usage: spie replay W < TRACE > REPORT            replays a trace with W workers, 1 to 16
        spie replay W FOLDER < TRACE > REPORT     the same, with archived pages in files of this folder
        spie play < SCRIPT > ANSWERS              does the steps of a script on the gate of a router's pages
+       spie pcap NAME FIRST SKIP < CAPTURE       the packets of a capture as lines of a trace, as router NAME forwards them
+       spie pcap count < CAPTURE                 how many records of a capture are packets
 example: spie replay 1 < examples/three_in_a_line.trace";
 
 // Each word of a refusal, and what it says.
@@ -57,9 +59,27 @@ const REFUSALS: [(&str, &str); 22] = [
     ),
 ];
 
+// The same for a capture, of which a byte is named.
+const CAPTURE_REFUSALS: [(&str, &str); 5] = [
+    ("too-long", "the capture has more than 67,108,864 bytes"),
+    (
+        "short",
+        "a capture begins with a header of 24 bytes, and there are fewer",
+    ),
+    (
+        "magic",
+        "no classic capture with microseconds; `editcap -F pcap IN OUT` makes one of pcapng or nanoseconds",
+    ),
+    ("version", "the version of the capture's format is not 2.4"),
+    (
+        "link-type",
+        "the frames are neither Ethernet nor raw IP; docs/FORMATS.md says what to do",
+    ),
+];
+
 // What the word of a refusal says.
-fn sentence(why: &str) -> &'static str {
-    for (word, text) in &REFUSALS {
+fn sentence(table: &'static [(&'static str, &'static str)], why: &str) -> &'static str {
+    for (word, text) in table {
         if *word == why {
             return text;
         }
@@ -67,25 +87,32 @@ fn sentence(why: &str) -> &'static str {
     "the input is refused"
 }
 
-fn refusal(rt: &HostRuntime, front: &[u8]) -> std::io::Result<()> {
+fn refusal(rt: &HostRuntime, front: &[u8], is_capture: bool) -> std::io::Result<()> {
     let text = std::str::from_utf8(front).unwrap_or("");
     let line = text.trim_end();
     let rest = line.strip_prefix("refused ").unwrap_or(line);
     match rest.split_once(' ') {
+        Some((_, why)) if is_capture => eprintln!(rt; "spie: {}", sentence(&CAPTURE_REFUSALS, why)),
         // Line 0 is the whole input.
-        Some((number, why)) if number == "0" => eprintln!(rt; "spie: {}", sentence(why)),
-        Some((number, why)) => eprintln!(rt; "spie: line {number}: {}", sentence(why)),
+        Some((number, why)) if number == "0" => eprintln!(rt; "spie: {}", sentence(&REFUSALS, why)),
+        Some((number, why)) => eprintln!(rt; "spie: line {number}: {}", sentence(&REFUSALS, why)),
         None => eprintln!(rt; "spie: the input is refused"),
     }
 }
 
-/// Says how a run ended; nothing where it is done. `front` is how its output begins. What can't be said on standard
+/// Says how a run ended; nothing where it is done. `front` is how its output begins, and a
+/// capture is refused in words of its own. What can't be said on standard
 /// error is lost, since there is no other place for it.
-pub fn explain(rt: &HostRuntime, status: Status, front: &[u8]) -> std::io::Result<()> {
+pub fn explain(
+    rt: &HostRuntime,
+    status: Status,
+    front: &[u8],
+    is_capture: bool,
+) -> std::io::Result<()> {
     match status {
         Status::Done | Status::No => Ok(()),
         Status::Usage => eprintln!(rt; "{USAGE}"),
-        Status::TraceRefused => refusal(rt, front),
+        Status::TraceRefused => refusal(rt, front, is_capture),
         Status::ReadFault => eprintln!(rt; "spie: the input can't be read; nothing was written"),
         Status::WriteFault => eprintln!(rt;
             "spie: the output can't be written; what was written is not whole"

@@ -1,3 +1,4 @@
+pub mod Captures
 pub mod Inputs
 pub mod Later
 pub mod Refusals

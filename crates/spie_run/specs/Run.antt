@@ -2,7 +2,7 @@
 --
 -- Read `Ran` first, at the end: it is the promise of the program, by what the arguments ask for, the status, and what
 -- source, sink, shelf and yard tell before the run and after it.
-use Rattle.std.specs.Prelude.{ℕ, ◌+◌, ◌≤◌, ◌≡◌, ◌⊎◌, ◌↔◌, List, length, Some, None, IsSome, true}
+use Rattle.std.specs.Prelude.{ℕ, ◌+◌, ◌≤◌, ◌≡◌, ◌⊎◌, ◌↔◌, List, length, Some, None, IsSome, true, false}
 use Rattle.std.specs.declared.option.Option.{Option}
 use Rattle.std.specs.Io.KnownBytes.{Consumes, Appends, IsAtEnd}
 use Rattle.spie_base.specs.Causes.{Rose}
@@ -21,10 +21,12 @@ use Rattle.trace_format.specs.declared.TraceRefused.{TraceRefused}
 use Rattle.trace_history.specs.Replay.{ReplayViews}
 use Rattle.trace_history.specs.Workers.{IsReplayedBy, YardView}
 use Rattle.trace_history.specs.declared.Totals.{Totals}
+use Rattle.spie_run.specs.Captures.{IsCaptureText, IsCountText, IsCaptureRefusal}
 use Rattle.spie_run.specs.Later.{is_first_version, IsUnreplayed}
 use Rattle.spie_run.specs.Refusals.{fault_text}
+use Rattle.spie_run.specs.Words.{is_replay}
 use Rattle.spie_run.specs.declared.words.Command.{Command}
-use Rattle.spie_run.specs.declared.words.Command.TheVariants.{Replay, Play}
+use Rattle.spie_run.specs.declared.words.Command.TheVariants.{Replay, Play, Pcap, PcapCount}
 
 -- what a run was lent to keep pages in, before it and after it
 pub record Keeping : Type 0 where
@@ -52,28 +54,35 @@ pub record Plays (kept : Keeping) (input output : List ℕ) : Type 0 where
   pub played : IsReport script output
   pub untouched : IsUntouched kept
 
--- the output is what the command makes of the input
-abbrev pub Outputs : Command → Keeping → (input output : List ℕ) → Type 0
-Outputs (Replay workers) kept input output = Reports workers kept input output
-Outputs Play kept input output = Plays kept input output
+-- the output is what the command makes of the input, for the router of this name where it speaks of one
+abbrev pub Outputs : Command → (name : List ℕ) → Keeping → (input output : List ℕ) → Type 0
+Outputs (Replay workers) name kept input output = Reports workers kept input output
+Outputs Play name kept input output = Plays kept input output
+Outputs (Pcap first skip) name kept input output = IsCaptureText name first skip input output × IsUntouched kept
+Outputs PcapCount name kept input output = IsCountText input output × IsUntouched kept
 
--- the first fault of an input that is no trace that is replayed, or no script
-abbrev pub IsFaultFor : Command → (input : List ℕ) → TraceRefused → Type 0
-IsFaultFor (Replay workers) input fault = IsUnreplayed input fault
-IsFaultFor Play input fault = script_text.IsFault input fault
-
--- the input has a fault, the output says so, and shelf and yard were not used
-pub record Refuses (command : Command) (kept : Keeping) (input output : List ℕ) : Type 0 where
+-- the input has a first fault, and the output says so
+pub record NamesFault (IsFaultOf : List ℕ → TraceRefused → Type 0) (input output : List ℕ) : Type 0 where
   pub fault : TraceRefused
-  pub first : IsFaultFor command input fault
+  pub first : IsFaultOf input fault
   pub says : output ≡ fault_text fault
+
+-- the output says why the input is no trace that is replayed, no script or no capture
+abbrev pub SaysWhy : Command → (input output : List ℕ) → Type 0
+SaysWhy (Replay workers) input output = NamesFault IsUnreplayed input output
+SaysWhy Play input output = NamesFault script_text.IsFault input output
+SaysWhy _ input output = IsCaptureRefusal input output
+
+-- the input is refused, the output says why, and shelf and yard were not used
+pub record Refuses (command : Command) (kept : Keeping) (input output : List ℕ) : Type 0 where
+  pub why : SaysWhy command input output
   pub untouched : IsUntouched kept
 
 -- what is written at the end of a run that read its input
-abbrev pub Answers : Command → Status → Keeping → (input output : List ℕ) → Type 0
-Answers command status.Done kept input output = Outputs command kept input output
-Answers command status.TraceRefused kept input output = Refuses command kept input output
-Answers command _ kept input output = ⊥
+abbrev pub Answers : Command → (name : List ℕ) → Status → Keeping → (input output : List ℕ) → Type 0
+Answers command name status.Done kept input output = Outputs command name kept input output
+Answers command name status.TraceRefused kept input output = Refuses command kept input output
+Answers command name _ kept input output = ⊥
 
 abbrev pub keeping : ReplayViews → (yard_before yard_after : List YardView) → Keeping
 keeping shelves before after = record { shelves = shelves; yard_before = before; yard_after = after }
@@ -123,14 +132,14 @@ pub record Delivered (want answer : Status) (before after : Told) (text : List �
 -- ---- the statuses
 
 -- Done: the input was read to its end, and what the arguments ask for was made of it and written
-pub record IsDone (wanted : Option Command) (before after : Views) : Type 0 where
+pub record IsDone (wanted : Option Command) (name : List ℕ) (before after : Views) : Type 0 where
   pub command : Command
   pub input : List ℕ
   pub output : List ℕ
   pub asked : wanted ≡ Some command
   pub read : Consumes before.source.bytes after.source.bytes input
   pub at_end : IsAtEnd after.source.bytes
-  pub made : Outputs command (kept_between before after) input output
+  pub made : Outputs command name (kept_between before after) input output
   pub written : Appends before.sink.bytes after.sink.bytes output
 
 -- TraceRefused: the input was read out, it is refused, and the line that says so was written
@@ -144,14 +153,14 @@ pub record IsRefused (wanted : Option Command) (before after : Views) : Type 0 w
   pub written : Appends before.sink.bytes after.sink.bytes output
 
 -- WriteFault: the input was read out, what was to be written was made, and a prefix of it stands
-pub record IsCutShort (wanted : Option Command) (before after : Views) : Type 0 where
+pub record IsCutShort (wanted : Option Command) (name : List ℕ) (before after : Views) : Type 0 where
   pub command : Command
   pub input : List ℕ
   pub status : Status
   pub output : List ℕ
   pub asked : wanted ≡ Some command
   pub read : IsReadOut before.source after.source input
-  pub answers : Answers command status (kept_between before after) input output
+  pub answers : Answers command name status (kept_between before after) input output
   pub front : AppendsFront before.sink.bytes after.sink.bytes output
 
 -- the statuses of a run in which neither source nor sink failed, and whose arguments are right
@@ -185,12 +194,12 @@ NoneFailed before after = (HasFailed before.source after.source → ⊥) × (Has
 abbrev pub CountsStay : (before after : Views) → Type 0
 CountsStay before after = (after.source.faults ≡ before.source.faults) × (after.sink.faults ≡ before.sink.faults)
 
--- A run whose arguments ask for this, or for nothing where they are wrong, ended so
-pub record Ran (wanted : Option Command) (before after : Views) (answer : Status) : Type 0 where
+-- A run whose arguments ask for this, or for nothing where they are wrong, and name this router, ended so
+pub record Ran (wanted : Option Command) (name : List ℕ) (before after : Views) (answer : Status) : Type 0 where
   -- what was read and written
-  pub done : answer ≡ status.Done → IsDone wanted before after
+  pub done : answer ≡ status.Done → IsDone wanted name before after
   pub refused : answer ≡ status.TraceRefused → IsRefused wanted before after
-  pub cut_short : answer ≡ status.WriteFault → IsCutShort wanted before after
+  pub cut_short : answer ≡ status.WriteFault → IsCutShort wanted name before after
   -- when each status comes
   pub usage : (answer ≡ status.Usage) ↔ (wanted ≡ None)
   pub never_no : answer ≡ status.No → ⊥
@@ -201,9 +210,9 @@ pub record Ran (wanted : Option Command) (before after : Views) (answer : Status
   pub read_first : answer ≡ status.WriteFault → after.source.faults ≡ before.source.faults
   -- the shelf stays as it was where nothing is replayed
   pub idle : IsIdle answer → after.shelf ≡ before.shelf
-  pub plays_alone : wanted ≡ Some Play → after.shelf ≡ before.shelf
+  pub shelfless : (command : Command) → wanted ≡ Some command → is_replay command ≡ false → after.shelf ≡ before.shelf
   -- and the yard, but where a replay was done
   pub unopened : IsUnopened answer → after.yard ≡ before.yard
-  pub plays_no_yard : wanted ≡ Some Play → after.yard ≡ before.yard
+  pub yardless : (command : Command) → wanted ≡ Some command → is_replay command ≡ false → after.yard ≡ before.yard
   -- with right arguments and no fault a run is done, or its input is refused, or memory was refused
   pub complete : IsSome wanted → NoneFailed before after → IsFaultless answer

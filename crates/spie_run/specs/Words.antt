@@ -4,8 +4,12 @@ use Rattle.std.specs.Str.{bytes_eq}
 use Rattle.std.specs.declared.option.Option.{Option}
 use Rattle.gate_core.specs.declared.limits.TheConstants.{MOST_PASSES}
 use Rattle.spie_base.specs.Decimal.{number_in}
+use Rattle.trace_format.specs.Spelling.{IsName}
+use Rattle.trace_format.specs.Text.{is_name}
+use Rattle.trace_format.specs.declared.limits.TheConstants.{MOST_NUMBER}
 use Rattle.spie_run.specs.declared.words.Command.{Command}
-use Rattle.spie_run.specs.declared.words.Command.TheVariants.{Replay, Play}
+use Rattle.spie_run.specs.declared.words.Command.TheVariants.{Replay, Play, Pcap, PcapCount}
+use Rattle.spie_run.specs.declared.words.TheConstants.{MOST_SKIP}
 
 abbrev pub none_of_none : Option ℕ → Option ℕ
 none_of_none (Some workers) = if workers == 0 then None else Some workers
@@ -31,12 +35,23 @@ abbrev pub play_of : List (List ℕ) → Option Command
 play_of [] = Some Play
 play_of _ = None
 
+abbrev pub pcap_by : (first skip : Option ℕ) → Option Command
+pcap_by (Some first) (Some skip) = Some (Pcap first skip)
+pcap_by _ _ = None
+
+-- the words behind `pcap`: NAME, FIRST and SKIP, or `count`
+abbrev pub pcap_of : List (List ℕ) → Option Command
+pcap_of (word ∷ []) = if bytes_eq word (codes "count") then Some PcapCount else None
+pcap_of (name ∷ first ∷ skip ∷ []) = if is_name name then pcap_by (number_in first MOST_NUMBER) (number_in skip MOST_SKIP) else None
+pcap_of _ = None
+
 -- what the arguments ask for, by the first word and the number of words behind it, with `most` workers at most
 abbrev pub command_of : (most : ℕ) → List (List ℕ) → Option Command
 command_of most [] = None
 command_of most (word ∷ rest) =
     if bytes_eq word (codes "replay") then replay_of most rest else
-    (if bytes_eq word (codes "play") then play_of rest else None)
+    (if bytes_eq word (codes "play") then play_of rest else
+    (if bytes_eq word (codes "pcap") then pcap_of rest else None))
 
 -- the last of three words
 abbrev pub third_of : List (List ℕ) → Option (List ℕ)
@@ -51,12 +66,31 @@ folder_by _ words = None
 abbrev pub folder_of : List (List ℕ) → Option (List ℕ)
 folder_of words = folder_by (command_of MOST_PASSES words) words
 
+abbrev pub first_word : List (List ℕ) → List ℕ
+first_word [] = []
+first_word (word ∷ more) = word
+
+-- the second word, the router of `pcap NAME FIRST SKIP`
+abbrev pub name_in : List (List ℕ) → List ℕ
+name_in [] = []
+name_in (word ∷ rest) = first_word rest
+
+-- where a command speaks of a router, this is a name, and its first number that of a packet
+abbrev pub IsNamed : Command → (name : List ℕ) → Type 0
+IsNamed (Pcap first skip) name = IsName name × (first ≤ MOST_NUMBER)
+IsNamed _ name = Unit {0}
+
 -- a command has from 1 to `most` workers, or none
 abbrev pub HasWorkers : (most : ℕ) → Command → Type 0
 HasWorkers most (Replay workers) = (1 ≤ workers) × (workers ≤ most)
-HasWorkers most Play = Unit {0}
+HasWorkers most _ = Unit {0}
+
+-- a command that replays a trace, and so may use shelf and yard
+abbrev pub is_replay : Command → Bool
+is_replay (Replay workers) = true
+is_replay _ = false
 
 -- a command that waits for nobody: it has one worker, or none
 abbrev pub is_alone : Command → Bool
 is_alone (Replay workers) = workers == 1
-is_alone Play = true
+is_alone _ = true

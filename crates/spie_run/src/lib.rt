@@ -7,6 +7,7 @@
 //! wait for nobody, and so it returns. Read `Ran` in `specs/Run.antt` first, then `top`.
 #![tactic(auto)]
 
+mod captures;
 mod refusals;
 mod replies;
 mod top;
@@ -14,4 +15,4 @@ mod words;
 
 pub use top::{run, run_alone};
 pub use trace_replay::Yard;
-pub use words::{Command, shelf_word};
+pub use words::{Command, capture_word, shelf_word};

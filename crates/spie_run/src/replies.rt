@@ -1,5 +1,5 @@
 // What a command makes of an input.
-ghost use Rattle.std.specs.Prelude.{◌≡◌, ◌≤◌, List, [], true, IfOk, IfErr, OnOk, OnErr};
+ghost use Rattle.std.specs.Prelude.{◌≡◌, ◌≤◌, ℕ, List, [], length, true, false, IfOk, IfErr, OnOk, OnErr};
 ghost use Rattle.gate_core.specs.declared.limits.TheConstants.{MOST_PASSES};
 ghost use Rattle.play_script.specs.Report.{IsReport};
 ghost use Rattle.play_script.specs.Sound.{IsSound as IsSoundScript};
@@ -11,8 +11,9 @@ ghost use Rattle.trace_replay.specs.Agents.{views_of};
 ghost use Rattle.spie_run.specs.Later.{is_first_version};
 ghost use Rattle.spie_run.specs.Replies.{IsRefusalOf, IsUnread};
 ghost use Rattle.spie_run.specs.Run.{Answers, keeping};
-ghost use Rattle.spie_run.specs.Words.{is_alone};
+ghost use Rattle.spie_run.specs.Words.{IsNamed, is_alone, is_replay};
 
+use crate::captures::{captured, counted};
 use crate::refusals::fault_text;
 use crate::words::Command;
 use gate_core::play;
@@ -22,7 +23,7 @@ use spie_base::{NoMemory, Status};
 use std::alloc::Global;
 use std::sync::Wait;
 use std::thread::Threads;
-use trace_format::{ReadTraceRefused, Trace, TraceRefused, WhyRefused, read_trace};
+use trace_format::{MOST_BYTES, ReadTraceRefused, Trace, TraceRefused, WhyRefused, read_trace};
 use trace_replay::{Free, Yard, replay, replay_alone};
 
 /// What is written, and the status that goes with it.
@@ -42,7 +43,7 @@ fn played_text(alloc: Global, script: &PlayScript) -> Result<Vec<u8>, NoMemory>
 }
 
 fn played(alloc: Global, text: Vec<u8>) -> Result<Reply, NoMemory>
-    ensures { (still : ShelfView) (yard : List YardView) → IfOk result (λ reply. Answers Command.Play reply.status
+    ensures { (still : ShelfView) (name : List ℕ) (yard : List YardView) → IfOk result (λ reply. Answers Command.Play name reply.status
         (keeping (record { shelf_before = still; shelf_after = still }) yard yard) text.items reply.text.items) }
 {
     let read = read_play(alloc, &text);
@@ -126,7 +127,7 @@ fn replayed_alone<H: Shelf>(
     yard: &mut Yard,
 ) -> Result<Reply, NoMemory>
     requires { yard.old ≡ [] }
-    ensures answers { IfOk result (λ reply. Answers (Command.Replay 1) reply.status
+    ensures answers { IfOk result (λ reply. Answers (Command.Replay 1) [] reply.status
         (keeping (views_of H.tells H.contents H.faults shelf.old shelf.new) yard.old yard.new) text.items reply.text.items) }
     ensures unopened { OnErr result (yard.new ≡ yard.old) }
 {
@@ -143,24 +144,29 @@ fn replayed_alone<H: Shelf>(
 }
 
 /// What a command that waits for nobody makes of an input, whose bytes are let go of once they are read. A report is written
-/// into their memory.
+/// into their memory. The name is that of `pcap`.
 pub fn reply_alone<H: Shelf>(
     alloc: Global,
     command: Command,
+    name: &[u8],
     text: Vec<u8>,
     shelf: &mut H,
     yard: &mut Yard,
 ) -> Result<Reply, NoMemory>
     requires alone { is_alone command ≡ true }
+    requires named { IsNamed command name.now }
+    requires short { length text.items ≤ MOST_BYTES }
     requires empty { yard.old ≡ [] }
-    ensures answers { IfOk result (λ reply. Answers command reply.status
+    ensures answers { IfOk result (λ reply. Answers command name.now reply.status
         (keeping (views_of H.tells H.contents H.faults shelf.old shelf.new) yard.old yard.new) text.items reply.text.items) }
-    ensures untouched { command ≡ Command.Play → (shelf.new ≡ shelf.old) × (yard.new ≡ yard.old) }
+    ensures untouched { is_replay command ≡ false → (shelf.new ≡ shelf.old) × (yard.new ≡ yard.old) }
     ensures unopened { OnErr result (yard.new ≡ yard.old) }
 {
     match command {
         Command::Replay { .. } => replayed_alone(alloc, text, shelf, yard),
         Command::Play => played(alloc, text),
+        Command::Pcap { first, skip } => captured(alloc, &text, name, first, skip),
+        Command::PcapCount => counted(alloc, &text),
     }
 }
 
@@ -177,7 +183,7 @@ pub fn reply_beside<R: Threads + Wait + Sync, H: Shelf + Send>(
     requires least { 1 ≤ workers }
     requires most { workers ≤ MOST_PASSES }
     requires empty { yard.old ≡ [] }
-    ensures answers { IfOk result (λ reply. Answers (Command.Replay workers) reply.status
+    ensures answers { IfOk result (λ reply. Answers (Command.Replay workers) [] reply.status
         (keeping (views_of H.tells H.contents H.faults shelf.old shelf.new) yard.old yard.new) text.items reply.text.items) }
     ensures unopened { OnErr result (yard.new ≡ yard.old) }
 {

@@ -1,14 +1,14 @@
 // The top call: reads the whole input, has the whole output made, and writes it.
-ghost use Rattle.std.specs.Prelude.{◌≡◌, ◌≤◌, ◌⊎◌, [], true, Some, IfOk, OnOk, IfErr, map, string_bytes};
+ghost use Rattle.std.specs.Prelude.{◌≡◌, ◌≤◌, ◌⊎◌, ℕ, List, [], true, Some, IfOk, OnOk, IfErr, map, string_bytes};
 ghost use Rattle.gate_core.specs.declared.limits.TheConstants.{MOST_PASSES};
 ghost use Rattle.spie_base.specs.declared.Status.{Status};
 ghost use Rattle.router_account.specs.Shelves.{view_of};
 ghost use Rattle.spie_run.specs.Inputs.{EndsUnread, IsInput};
 ghost use Rattle.spie_run.specs.Run.{told, views, Delivered, Ran};
-ghost use Rattle.spie_run.specs.Words.{command_of, is_alone};
+ghost use Rattle.spie_run.specs.Words.{IsNamed, command_of, is_alone, name_in};
 
 use crate::replies::{reply_alone, reply_beside};
-use crate::words::{Command, command_of};
+use crate::words::{Command, capture_word, command_of};
 use gate_core::MOST_PASSES;
 use page_shelf::Shelf;
 use spie_base::{NoMemory, ReadRefused, Sink, Source, Status, WriteFailed, read_all, write_all};
@@ -54,14 +54,16 @@ fn input<S: Source, K: Sink>(alloc: Global, source: &mut S, sink: &mut K) -> Res
 fn run_command<S: Source, K: Sink, H: Shelf>(
     alloc: Global,
     command: Command,
+    name: &[u8],
     source: &mut S,
     sink: &mut K,
     shelf: &mut H,
     yard: &mut Yard,
 ) -> Status
     requires alone { is_alone command ≡ true }
+    requires named { IsNamed command name.now }
     requires empty { yard.old ≡ [] }
-    ensures ran { Ran (Some command)
+    ensures ran { Ran (Some command) name.now
         (views (told S.left S.faults source.old) (told K.written K.faults sink.old)
         (view_of H.tells H.contents H.faults shelf.old) yard.old)
         (views (told S.left S.faults source.new) (told K.written K.faults sink.new)
@@ -72,7 +74,7 @@ fn run_command<S: Source, K: Sink, H: Shelf>(
         Ok(text) => text,
         Err(status) => return status,
     };
-    match reply_alone(alloc, command, text, shelf, yard) {
+    match reply_alone(alloc, command, name, text, shelf, yard) {
         Ok(reply) => deliver(sink, reply.status, &reply.text),
         Err(NoMemory) => Status::NoMemory,
     }
@@ -91,7 +93,7 @@ fn run_beside<R: Threads + Wait + Sync, S: Source, K: Sink, H: Shelf + Send>(
     requires least { 1 ≤ workers }
     requires most { workers ≤ MOST_PASSES }
     requires empty { yard.old ≡ [] }
-    ensures ran { Ran (Some (Command.Replay workers))
+    ensures ran { (name : List ℕ) → Ran (Some (Command.Replay workers)) name
         (views (told S.left S.faults source.old) (told K.written K.faults sink.old)
         (view_of H.tells H.contents H.faults shelf.old) yard.old)
         (views (told S.left S.faults source.new) (told K.written K.faults sink.new)
@@ -111,7 +113,8 @@ fn run_beside<R: Threads + Wait + Sync, S: Source, K: Sink, H: Shelf + Send>(
 /// Reads a whole input, does what the arguments ask for, and writes the whole output. `replay 1` asks for the report
 /// of a trace, and so does `replay 1 FOLDER`: which shelf the archived pages are put on is the caller's choice, by
 /// `shelf_word`. The trace's routers are left in the yard, where the report was made. `play` asks for what the steps of a
-/// script answered, and uses neither. An unknown command and wrong arguments are `Usage`, and so is more than one
+/// script answered; `pcap NAME FIRST SKIP` for the packets of a capture as lines of a trace, and `pcap count` for how many
+/// of its records became what; these use neither. An unknown command and wrong arguments are `Usage`, and so is more than one
 /// worker. These commands wait for nobody, so the call returns.
 ///
 /// Nothing is written before the input was read, to its end or one byte past its limit of 64 MiB, and the
@@ -125,7 +128,7 @@ pub fn run_alone<S: Source, K: Sink, H: Shelf>(
     yard: &mut Yard,
 ) -> Status
     requires empty { yard.old ≡ [] }
-    ensures ran { Ran (command_of 1 (map string_bytes words.now))
+    ensures ran { Ran (command_of 1 (map string_bytes words.now)) (name_in (map string_bytes words.now))
         (views (told S.left S.faults source.old) (told K.written K.faults sink.old)
         (view_of H.tells H.contents H.faults shelf.old) yard.old)
         (views (told S.left S.faults source.new) (told K.written K.faults sink.new)
@@ -135,7 +138,10 @@ pub fn run_alone<S: Source, K: Sink, H: Shelf>(
     ensures unwritten { (result ≡ Status.ReadFault ⊎ result ≡ Status.NoMemory) → sink.new ≡ sink.old }
 {
     match command_of(words, 1) {
-        Some(command) => run_command(alloc, command, source, sink, shelf, yard),
+        Some(command) => {
+            let name = capture_word(words);
+            run_command(alloc, command, name, source, sink, shelf, yard)
+        }
         None => Status::Usage,
     }
 }
@@ -153,7 +159,7 @@ pub fn run<R: Threads + Wait + Sync, S: Source, K: Sink, H: Shelf + Send>(
     yard: &mut Yard,
 ) -> Status
     requires empty { yard.old ≡ [] }
-    ensures ran { Ran (command_of MOST_PASSES (map string_bytes words.now))
+    ensures ran { Ran (command_of MOST_PASSES (map string_bytes words.now)) (name_in (map string_bytes words.now))
         (views (told S.left S.faults source.old) (told K.written K.faults sink.old)
         (view_of H.tells H.contents H.faults shelf.old) yard.old)
         (views (told S.left S.faults source.new) (told K.written K.faults sink.new)
@@ -166,7 +172,10 @@ pub fn run<R: Threads + Wait + Sync, S: Source, K: Sink, H: Shelf + Send>(
         Some(Command::Replay { workers }) if workers > 1 => {
             run_beside(rt, alloc, workers, source, sink, shelf, yard)
         }
-        Some(command) => run_command(alloc, command, source, sink, shelf, yard),
+        Some(command) => {
+            let name = capture_word(words);
+            run_command(alloc, command, name, source, sink, shelf, yard)
+        }
         None => Status::Usage,
     }
 }

@@ -1,9 +1,10 @@
 // The arguments of the command line.
-ghost use Rattle.std.specs.Prelude.{◌≡◌, ◌≤◌, IfSome, map, option_map, string_bytes};
-ghost use Rattle.spie_run.specs.Words.{HasWorkers, command_of, folder_of, play_of, replay_of, workers_in};
+ghost use Rattle.std.specs.Prelude.{◌≡◌, ◌≤◌, ℕ, IfSome, map, option_map, string_bytes};
+ghost use Rattle.spie_run.specs.Words.{HasWorkers, IsNamed, command_of, first_word, folder_of, name_in, pcap_of, play_of, replay_of, workers_in};
 
 use gate_core::MOST_PASSES;
 use spie_base::decimal;
+use trace_format::{MOST_NUMBER, is_name};
 
 /// What the arguments ask for.
 #[derive(Clone, Copy, PartialEq, Eq, Debug)]
@@ -12,7 +13,14 @@ pub enum Command {
     Replay { workers: u32 },
     /// `play`: the steps of a script are done on the gate core.
     Play,
+    /// `pcap NAME FIRST SKIP`: the packets of a capture become lines of the router that `capture_word` finds.
+    Pcap { first: u32, skip: u32 },
+    /// `pcap count`: how many records of a capture became what.
+    PcapCount,
 }
+
+/// The greatest SKIP.
+const MOST_SKIP: u64 = 4_294_967_295;
 
 fn workers_in(word: &String, most: u32) -> Option<u32>
     ensures workers { result ≡ workers_in most (string_bytes word.now) }
@@ -48,11 +56,32 @@ fn play_of(rest: &[String]) -> Option<Command>
     }
 }
 
+// Behind `pcap` stand NAME, FIRST and SKIP, or `count`.
+fn pcap_of(rest: &[String]) -> Option<Command>
+    ensures command { result ≡ pcap_of (map string_bytes rest.now) }
+    ensures range { (most : ℕ) → IfSome result (λ command. HasWorkers most command) }
+    ensures named { IfSome result (λ command. IsNamed command (first_word (map string_bytes rest.now))) }
+{
+    match rest {
+        [word] if word.as_str() == "count" => Some(Command::PcapCount),
+        [name, first, skip] if is_name(name.as_bytes()) => {
+            let first = decimal(first.as_bytes(), MOST_NUMBER)?;
+            let skip = decimal(skip.as_bytes(), MOST_SKIP)?;
+            Some(Command::Pcap {
+                first: first as u32,
+                skip: skip as u32,
+            })
+        }
+        _ => None,
+    }
+}
+
 /// What the arguments ask for, with `most` workers at most, and `None` for an unknown command or wrong arguments. The
 /// first word names the command, and each command looks at the words behind it.
 pub fn command_of(words: &[String], most: u32) -> Option<Command>
     ensures command { result ≡ command_of most (map string_bytes words.now) }
     ensures range { IfSome result (λ command. HasWorkers most command) }
+    ensures named { IfSome result (λ command. IsNamed command (name_in (map string_bytes words.now))) }
 {
     let [word, rest @ ..] = words else {
         return None;
@@ -61,6 +90,8 @@ pub fn command_of(words: &[String], most: u32) -> Option<Command>
         replay_of(rest, most)
     } else if word.as_str() == "play" {
         play_of(rest)
+    } else if word.as_str() == "pcap" {
+        pcap_of(rest)
     } else {
         None
     }
@@ -76,5 +107,15 @@ pub fn shelf_word(words: &[String]) -> Option<&str>
     match words {
         [_, _, folder] => Some(folder.as_str()),
         _ => None,
+    }
+}
+
+/// The router of `pcap NAME FIRST SKIP`: the second argument, and nothing where there is none.
+pub fn capture_word(words: &[String]) -> &[u8]
+    ensures { result.now ≡ name_in (map string_bytes words.now) }
+{
+    match words {
+        [_, name, ..] => name.as_bytes(),
+        _ => b"",
     }
 }

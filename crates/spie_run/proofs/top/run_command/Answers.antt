@@ -6,7 +6,7 @@ use Rattle.spie_run.proofs.top.run_command.Goals as goal
 
 pub returns-in-Err-clause-ran : goal.returns-in-Err-clause-ran
 returns-in-Err-clause-ran g c =
-    c.in-Err.ensures.ended c.args.command (view_of g.H.Shelf.tells g.H.Shelf.contents g.H.Shelf.faults c.args.shelf.now) c.args.yard.now
+    c.in-Err.ensures.ended c.args.command c.args.name.now (view_of g.H.Shelf.tells g.H.Shelf.contents g.H.Shelf.faults c.args.shelf.now) c.args.yard.now
 
 pub returns-in-Ok-reply_alone-clause-ran : goal.returns-in-Ok-reply_alone-clause-ran
 returns-in-Ok-reply_alone-clause-ran g c =
@@ -15,5 +15,5 @@ returns-in-Ok-reply_alone-clause-ran g c =
     let sink = told g.K.Sink.written g.K.Sink.faults in
     let S : Told → Type 0 = λ before. Delivered want c.deliver.result before (sink c.deliver.new.sink) c.deref.result.now in
     let D : List ℕ → Type 0 = λ out. Delivered want c.deliver.result (sink c.args.sink.now) (sink c.deliver.new.sink) out in
-    ran_reply _ _ _ c.args.command refl want c.deliver.result c.in-Ok.text.items c.in-Ok-reply_alone.reply.text.items
+    ran_reply _ c.args.name.now _ _ c.args.command refl want c.deliver.result c.in-Ok.text.items c.in-Ok-reply_alone.reply.text.items
     input.took input.at_end input.faults c.in-Ok-reply_alone.ensures.answers (subst D c.deref.ensures.value (subst S (ap sink c.in-Ok.ensures.unused) c.deliver.ensures))
