@@ -93,4 +93,5 @@ passes_kept {A = A} stands clock tick old mid new bs was now all kept = record {
   paid = all.paid;
   holds = all.holds;
   others = all.others;
+  untouched = all.untouched;
 }
