@@ -1,11 +1,11 @@
 -- One record more.
-use Rattle.std.proofs.Common.{ℕ, ◌≡◌, ◌+◌, ◌≤◌, List, [], ◌∷◌, length, refl, ap, arith, sym, ◌∙◌, Bool, true, false, cond, not, ◌&&◌, is_some, subst, Some, None}
+use Rattle.std.proofs.Common.{ℕ, ◌≡◌, ◌+◌, ◌≤◌, List, [], ◌∷◌, length, refl, ap, arith, sym, ◌∙◌, Bool, true, false, cond, not, is_some, subst, Some, None}
 use Rattle.std.specs.declared.option.Option.{Option}
 use Rattle.pcap_intake.proofs.Heads.{few_records, next_of}
 use Rattle.pcap_intake.specs.Capture.{Captured, Begins, IsFirst, second_of}
 use Rattle.pcap_intake.specs.Frames.{is_other, is_refused, is_good, is_read, is_held_and, packet_in}
 use Rattle.pcap_intake.specs.Intake.{goods, count_of, packet_from}
-use Rattle.pcap_intake.specs.Steps.{AreTaken, AreAdded, IsReached, IsNext, CanRise, Page}
+use Rattle.pcap_intake.specs.Steps.{AreTaken, AreAdded, IsReached, CanRise, Page}
 use Rattle.pcap_intake.specs.Text.{Packet}
 use Rattle.pcap_intake.specs.declared.counts.Counts.{Counts}
 use Rattle.pcap_intake.specs.declared.kind.CaptureKind.{CaptureKind}

@@ -1,5 +1,5 @@
 -- A packet is judged by its first 68 bytes.
-use Rattle.std.proofs.Common.{ℕ, zero, suc, ◌≡◌, ◌+◌, ◌≤◌, ◌<◌, List, [], ◌∷◌, ◌++◌, length, take, drop, min, refl, ap, arith, sym, ◌∙◌, Bool, true, false, nat_lt, slice_index, slice_set, Some, None, is_some, not, ◌&&◌}
+use Rattle.std.proofs.Common.{ℕ, zero, suc, ◌≡◌, ◌≤◌, List, [], ◌∷◌, ◌++◌, length, take, min, refl, ap, arith, sym, ◌∙◌, true, slice_set, Some, None, not}
 use Rattle.std.proofs.lemmas.List.{take-take, length-take, length-set}
 use Rattle.std.proofs.Math.Seq.{take-append_seam}
 use Rattle.std.specs.declared.option.Option.{Option}

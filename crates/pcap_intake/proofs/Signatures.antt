@@ -1,10 +1,10 @@
 -- What is written of a packet has its signature.
-use Rattle.std.proofs.Common.{ℕ, zero, suc, ◌≡◌, ◌+◌, ◌*◌, ◌%◌, ◌≤◌, ◌<◌, List, ◌++◌, length, take, drop, map, min, refl, ap, arith, sym, ◌∙◌, Bool, true, false, cond, nat_lt, slice_index, Some, None, is_some, not, ◌&&◌, ◌||◌, ◌==◌}
+use Rattle.std.proofs.Common.{ℕ, zero, suc, ◌≡◌, ◌+◌, ◌≤◌, ◌<◌, List, ◌++◌, length, take, map, min, refl, ap, arith, sym, ◌∙◌, Bool, true, false, cond, nat_lt, slice_index, Some, None, is_some, not, ◌||◌, ◌==◌}
 use Rattle.std.proofs.lemmas.Bool.Decides.{nat_tests}
 use Rattle.std.proofs.lemmas.List.{take-take, get_or-take, get_or_past, length-take}
 use Rattle.std.specs.List.{range_with_len}
 use Rattle.std.specs.declared.option.Option.{Option}
-use Rattle.ipv4_header.specs.Grammar.{number_at, refusal_of, header_length_of, total_length_of, version_of, is_short, is_header_cut, is_total_below, is_sum_wrong}
+use Rattle.ipv4_header.specs.Grammar.{refusal_of, header_length_of, total_length_of, version_of, is_short, is_header_cut, is_total_below, is_sum_wrong}
 use Rattle.ipv4_header.specs.declared.fields.HeaderRefused.{HeaderRefused}
 use Rattle.ipv4_header.specs.declared.fields.HeaderRefused.TheVariants.{Short, Version, HeaderLength, TotalLength, Checksum}
 use Rattle.packet_signature.specs.Signature.{masked, endless, signature_of}

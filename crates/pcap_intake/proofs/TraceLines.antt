@@ -15,7 +15,7 @@ use Rattle.topology.specs.Layout.{empty, with_router, has_name}
 use Rattle.line_text.proofs.Fields.{cut_line, hex_leaves, not_byte, number_leaves, three_fields, three_leave, two_fields, two_leave}
 use Rattle.line_text.specs.Fields.{LeavesOut}
 use Rattle.line_text.specs.Language.{Begins}
-use Rattle.line_text.specs.Text.{fields, lines}
+use Rattle.line_text.specs.Text.{lines}
 use Rattle.packet_signature.specs.Signature.{signature_of}
 use Rattle.trace_format.proofs.Forwards.{name_leaves, name_short}
 use Rattle.trace_format.specs.Before.{form_at, layout_of, sigs_of, clock_of, count_of, is_tick, is_record, known_of}
@@ -23,7 +23,6 @@ use Rattle.trace_format.specs.Said.{Said}
 use Rattle.trace_format.specs.Said as said
 use Rattle.trace_format.specs.Spelling.{IsName}
 use Rattle.trace_format.specs.Trace.{IsLine, traces, trace_of}
-use Rattle.trace_format.specs.Versions.{version_text}
 use Rattle.trace_format.specs.Words.{stage_of, may_come}
 use Rattle.trace_format.specs.declared.version.Version.{Version}
 use Rattle.trace_format.specs.declared.version.Version.TheVariants.{First, Second, Third}

@@ -1,5 +1,5 @@
 -- One record, and what was made of those before it. No public clause cites this module.
-use Rattle.std.specs.Prelude.{ℕ, ◌-◌, ◌≡◌, ◌≤◌, ◌<◌, ◌^◌, List, [], ◌∷◌, ◌++◌, length, take, min, drop, true, false, Some, None}
+use Rattle.std.specs.Prelude.{ℕ, ◌-◌, ◌≡◌, ◌<◌, ◌^◌, List, [], ◌∷◌, ◌++◌, length, min, false, Some, None}
 use Rattle.std.specs.declared.option.Option.{Option}
 use Rattle.pcap_intake.specs.Capture.{Captured, IsRecord, Begins, second_of}
 use Rattle.pcap_intake.specs.Frames.{is_other, is_refused}
