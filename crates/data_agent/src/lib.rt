@@ -4,8 +4,9 @@
 //!
 //! An agent stands for one ledger (`router_account`): what was recorded and when pages closed, and what barriers and
 //! archivals made of its pages. Each call says: whatever ledger the agent stood for, it stands for that ledger after this
-//! event, and its answer is an equation over it. `StandsFor` says what standing for a ledger is, and no public clause looks
-//! into it.
+//! event, and its answer is an equation over it; where the shelf decides (which pages of an archival were put, which are
+//! left there, which could not be read) it is a relation. `StandsFor` says what standing for a ledger is, and no public
+//! clause looks into it.
 //!
 //! # The plane
 //!

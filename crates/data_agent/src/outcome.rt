@@ -4,7 +4,7 @@ use spie_base::{List, PageNo};
 /// What became of the pages that a segment's archival covers. Both lists ascend.
 #[derive(PartialEq, Eq, Debug, Drop)]
 pub struct Archived {
-    /// On the shelf now.
+    /// Both records were put. One that expires at the same barrier was discarded there.
     pub put: List<PageNo>,
     /// Still in memory, since a put failed.
     pub kept: List<PageNo>,

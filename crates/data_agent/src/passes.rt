@@ -77,8 +77,9 @@ impl Agent {
     }
 
     /// Takes in all passes that are out. The agent then stands for the ledger that has their entries too; the bits records that
-    /// were put meanwhile have their pages' bits, and each mark that was read as set is one of an entry. Where a pass recorded
-    /// in the open page the next tick counts its bits. Takes no memory. Costs a load for each pass.
+    /// were put meanwhile have their pages' bits, and where all marks of a signature were read as set in a page, the entries
+    /// show it there. Where a pass recorded in the open page the next tick counts its bits. Takes no memory. Costs a load for
+    /// each pass.
     pub fn gather(&mut self, plane: &Plane, passes: Vec<Pass>)
         requires own { IsOwnPlane plane.now self.old }
         requires passes { All (λ p. p.table ≡ plane.now.table) passes.items }

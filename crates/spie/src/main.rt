@@ -5,7 +5,7 @@
 //! `spie pcap NAME FIRST SKIP < capture > lines`, `spie pcap count < capture`. W is the
 //! number of workers, 1 to 16. Pages that are archived go to files in FOLDER, which has to be there, and without it to memory. It ends with the number of
 //! the run's status: 0 done, 2 unknown command or wrong arguments, 3 the input is refused, 4 the input can't be read,
-//! 5 the output can't be written, 6 there is no memory. Standard error says the same in a sentence.
+//! 5 the output can't be written, 6 there is no memory. Where it is not 0, standard error says why in a sentence.
 //!
 //! What it does is the contract of `spie_run::run`; here stand only the edges: the arguments, standard input and
 //! output, the shelf, the yard, and what is said on standard error (`messages`), for which `front_sink` remembers how the output

@@ -1,10 +1,11 @@
 //! The run of the program: its arguments, what it reads and what it writes.
 //!
-//! Its central contract is that of `run`, which carries the promise of the whole program: where it
-//! answers `Done`, the bytes that were read are a trace, or a script of `play`, and the bytes that were
-//! written are the report of a replay of it, which leaves the trace's routers in the yard, or of its steps, by the
-//! definitions of `trace_format`, `trace_history` and `play_script`; each other status comes with its cause. `run_alone` is the same for commands that
-//! wait for nobody, and so it returns. Read `Ran` in `specs/Run.antt` first, then `top`.
+//! Its central contract is that of `run`, which carries the promise of the whole program. Where it answers `Done`, the
+//! bytes that were read are a trace, a script or a capture, and those that were written are the report of a replay of it,
+//! which leaves the trace's routers in the yard; what its steps answer; or its lines or counts: by the definitions of
+//! `trace_format`, `trace_history`, `play_script` and `pcap_intake`. Each other status but `NoMemory` comes with its cause.
+//! `run_alone` is the same for commands that wait for nobody, and so it returns. Read `Ran` in `specs/Run.antt` first, then
+//! `top`.
 #![tactic(auto)]
 
 mod captures;
