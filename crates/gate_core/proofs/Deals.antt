@@ -30,27 +30,7 @@ module _ {A : Type 0} where
 
 -- the slots and pages fit, however many passes were dealt and are out
 pub same_slots : (shape : PageShape) (d : Duties) (a b : ℕ) → SlotsFit shape d → SlotsFit shape (record d { dealt = a; out = b })
-same_slots shape d a b f = record {
-  four = f.four;
-  pointed_slot = f.pointed_slot;
-  pointed_used = f.pointed_used;
-  open_last = f.open_last;
-  stands_used = f.stands_used;
-  used_below = f.used_below;
-  used_apart = f.used_apart;
-  page_within = f.page_within;
-  placed = f.placed;
-  one_list = f.one_list;
-  taken_words = f.taken_words;
-  taken_short = f.taken_short;
-  fits = f.fits;
-}
-
-same_stage : (shape : PageShape) (d : Duties) (a b floor : ℕ) (st : PassState) → StateFits shape d floor st → StateFits shape (record d { dealt = a; out = b }) floor st
-same_stage shape d a b floor Idle k = k
-same_stage shape d a b floor (Looked s) k = k
-same_stage shape d a b floor (Inside s page sig m) k = k
-same_stage shape d a b floor (Visiting s gate) k = k
+same_slots shape d a b f = f
 
 module _ (shape : PageShape) (words : List ℕ) (views : List View) (id : ℕ) (v : View) (there : get_elem? views id ≡ some v) (role : v.role ≡ Keeper) (f : PlaneFits shape words views v.duties v.entries) where
   abbrev d : Duties
@@ -61,11 +41,11 @@ module _ (shape : PageShape) (words : List ℕ) (views : List View) (id : ℕ) (
 
   seat_same : (a b : ℕ) → d.dealt ≤ a → (u : View) → ActorFits shape d u → ActorFits shape (record d { dealt = a; out = b }) u
   seat_same a b le u k = record {
-    state = same_stage shape d a b u.floor u.state k.state;
+    state = k.state;
     entries = k.entries;
     ordered = k.ordered;
     last = k.last;
-    visits = λ i x at. let z = k.visits i x at in record { sealed_gate = z.sealed_gate; below = z.below; from_floor = z.from_floor; not_open = z.not_open };
+    visits = k.visits;
     floor = k.floor;
     number = λ e. let n = k.number e in omega arith;
     base = k.base;
@@ -147,7 +127,7 @@ module _ (shape : PageShape) (words : List ℕ) (views : List View) (id : ℕ) (
         long = f.long;
         current_slot = f.current_slot;
         gates = λ s near. let a = total_split (in_slot s) refl in f.gates s near ∙ (omega arith);
-        slots = same_slots shape d (d.dealt + 1) (d.out + 1) f.slots;
+        slots = f.slots;
         actors = λ j u at. ⊎_elim (λ (o, at', how). ⊎_elim (λ e. subst (ActorFits shape dealer.duties) (sym e) (seat_same (d.dealt + 1) (d.out + 1) (omega arith) o (f.actors j o at'))) (λ t. subst (ActorFits shape dealer.duties) (sym t.1) seat_left) how)
             (λ t. subst (ActorFits shape dealer.duties) (sym t.1) seat_new) (origin j u at);
         slot_words = λ s near stands p small. let old = f.slot_words s near stands p small in let m = both_ways (λ u. IsMarked shape u.entries (slot_at d s).page p ⊎ HasSet shape u.state s p) (λ x. x) (λ x. x) (λ x. ⊎_elim (no_mark (slot_at d s).page p) (λ h. h) x) in
@@ -155,7 +135,7 @@ module _ (shape : PageShape) (words : List ℕ) (views : List View) (id : ℕ) (
         collected_words = λ page below whole p small. let old = f.collected_words page below whole p small in let m = both_ways (λ u. IsMarked shape u.entries page p) (λ x. x) (λ x. x) (no_mark page p) in ((λ b. m.0 (old.0 b)), (λ y. old.1 (m.1 y)));
         drained_words = f.drained_words;
         free_words = f.free_words;
-        probes = λ i x at. let k = f.probes i x at in record { page_below = k.page_below; at_below = k.at_below; known = k.known; seen = k.seen; unseen = k.unseen };
+        probes = f.probes;
         noted = f.noted;
         out = let a = total_split is_pass refl in let b = f.out in omega arith;
         few = omega arith;
@@ -275,7 +255,7 @@ module _ (shape : PageShape) (words : List ℕ) (views : List View) (id : ℕ) (
         long = f.long;
         current_slot = f.current_slot;
         gates = λ s near. let a = total_join (in_slot s) refl refl in let b : in_slot s p ≡ 0 = ap (counts_in s) idle in f.gates s near ∙ (omega arith);
-        slots = same_slots shape d d.dealt (d.out - 1) f.slots;
+        slots = f.slots;
         actors = λ j u at. ⊎_elim (λ old. seat_same d.dealt (d.out - 1) (le_refl d.dealt) u (f.actors j u old)) (λ t. ⊎_elim (λ b. subst (ActorFits shape both.duties) (sym b.1) seat_both) (λ b. subst (ActorFits shape both.duties) (sym b) seat_blank) t) (whence j u at);
         slot_words = λ s near stands q small. let old = f.slot_words s near stands q small in let m = merged (λ st. HasSet shape st s q) (λ x. x) (slot_at d s).page q in ((λ b. m.0 (old.0 b)), (λ y. old.1 (m.1 y)));
         collected_words = λ page below whole q small. let old = f.collected_words page below whole q small in let m = kept_recorded page q in ((λ b. m.0 (old.0 b)), (λ y. old.1 (m.1 y)));

@@ -53,42 +53,6 @@ module _ (shape : PageShape) (words : List ℕ) (views : List View) (id : ℕ) (
     abbrev e' : Duties
     e' = record d { probes = d.probes ++ seen ∷ [] }
 
-    slots'' : SlotsFit shape e'
-    slots'' = let k = f.slots in record {
-      four = k.four;
-      pointed_slot = k.pointed_slot;
-      pointed_used = k.pointed_used;
-      open_last = k.open_last;
-      stands_used = k.stands_used;
-      used_below = k.used_below;
-      used_apart = k.used_apart;
-      page_within = k.page_within;
-      placed = k.placed;
-      one_list = k.one_list;
-      taken_words = k.taken_words;
-      taken_short = k.taken_short;
-      fits = k.fits;
-    }
-
-    state'' : (floor : ℕ) (st : PassState) → StateFits shape d floor st → StateFits shape e' floor st
-    state'' floor Idle k = k
-    state'' floor (Looked t) k = k
-    state'' floor (Inside t page sig m) k = k
-    state'' floor (Visiting t gate) k = k
-
-    actor'' : (u : View) → ActorFits shape d u → ActorFits shape e' u
-    actor'' u k = record {
-      state = state'' u.floor u.state k.state;
-      entries = k.entries;
-      ordered = k.ordered;
-      last = k.last;
-      visits = λ i x at. let z = k.visits i x at in record { sealed_gate = z.sealed_gate; below = z.below; from_floor = z.from_floor; not_open = z.not_open };
-      floor = k.floor;
-      number = k.number;
-      base = k.base;
-      gone = k.gone;
-    }
-
     is_bit : page_bit shape words d s p ≡ bit_at n (p % 64)
     is_bit = let k = probe_stands (slot_at d s).phase can in page_bit_none shape words d s p (f.slots.taken_words s near k.0 ∙ k.1)
 
@@ -106,13 +70,13 @@ module _ (shape : PageShape) (words : List ℕ) (views : List View) (id : ℕ) (
       long = f.long;
       current_slot = f.current_slot;
       gates = f.gates;
-      slots = slots'';
-      actors = λ j u at. actor'' u (f.actors j u at);
+      slots = f.slots;
+      actors = f.actors;
       slot_words = f.slot_words;
       collected_words = f.collected_words;
       drained_words = f.drained_words;
       free_words = f.free_words;
-      probes = λ i x at. ⊎_elim (λ old. let k = f.probes i x old in record { page_below = k.page_below; at_below = k.at_below; known = k.known; seen = k.seen; unseen = k.unseen }) (λ t. subst (ProbeFits shape words e' v.entries) t.1 fit) (at_snoc d.probes seen x i at);
+      probes = λ i x at. ⊎_elim (λ old. f.probes i x old) (λ t. subst (ProbeFits shape words e' v.entries) t.1 fit) (at_snoc d.probes seen x i at);
       noted = f.noted;
       out = refl;
     }

@@ -61,54 +61,18 @@ module _ (shape : PageShape) (words : List ℕ) (views : List View) (id : ℕ) (
   few : total (in_slot s) views ≤ d.out + busy v.state
   few = few_inside shape words views id v there role f s
 
-  slots1 : SlotsFit shape d1
-  slots1 = let k = f.slots in record {
-    four = k.four;
-    pointed_slot = k.pointed_slot;
-    pointed_used = k.pointed_used;
-    open_last = k.open_last;
-    stands_used = k.stands_used;
-    used_below = k.used_below;
-    used_apart = k.used_apart;
-    page_within = k.page_within;
-    placed = k.placed;
-    one_list = k.one_list;
-    taken_words = k.taken_words;
-    taken_short = k.taken_short;
-    fits = k.fits;
-  }
-
-  stage1 : (floor : ℕ) (st : PassState) → StateFits shape d floor st → StateFits shape d1 floor st
-  stage1 floor Idle k = k
-  stage1 floor (Looked t) k = k
-  stage1 floor (Inside t page sig m) k = k
-  stage1 floor (Visiting t gate) k = k
-
-  seat1 : (u : View) → ActorFits shape d u → ActorFits shape d1 u
-  seat1 u k = record {
-    state = stage1 u.floor u.state k.state;
-    entries = k.entries;
-    ordered = k.ordered;
-    last = k.last;
-    visits = λ i x at. let z = k.visits i x at in record { sealed_gate = z.sealed_gate; below = z.below; from_floor = z.from_floor; not_open = z.not_open };
-    floor = k.floor;
-    number = k.number;
-    base = k.base;
-    gone = k.gone;
-  }
-
   pending : PlaneInvariant shape words (set views id (with_duties v d1))
   pending = duty_kept shape words words views id v d1 there role f record {
     long = f.long;
     current_slot = f.current_slot;
     gates = f.gates;
-    slots = slots1;
-    actors = λ j u at. seat1 u (f.actors j u at);
+    slots = f.slots;
+    actors = f.actors;
     slot_words = f.slot_words;
     collected_words = f.collected_words;
     drained_words = f.drained_words;
     free_words = f.free_words;
-    probes = λ i x at. let k = f.probes i x at in record { page_below = k.page_below; at_below = k.at_below; known = k.known; seen = k.seen; unseen = k.unseen };
+    probes = f.probes;
     noted = let a = n_inside in let b = few in omega arith;
     out = refl;
   }
@@ -183,7 +147,7 @@ module _ (shape : PageShape) (words : List ℕ) (views : List View) (id : ℕ) (
       long = f.long;
       current_slot = f.current_slot;
       gates = λ t small. let a = pages t in let b = as_sealed t in f.gates t small ∙ (λ k. total (in_slot t) views + sym b k * 65536 + sym a k * 4294967296);
-      slots = rephased shape d1 s (Quiet 0) slots1 near (subst HasPage (sym is_sealed) tt) tt (λ e. cc) (sym (ap taken is_sealed));
+      slots = rephased shape d1 s (Quiet 0) f.slots near (subst HasPage (sym is_sealed) tt) tt (λ e. cc) (sym (ap taken is_sealed));
       actors = λ j u at. seat2 j u at (f.actors j u at);
       slot_words = λ t small h p lt. let same = bit_same t p in let old = f.slot_words t small (stood t h) p lt in subst (λ (g : ℕ). (page_bit shape words d2 t p ≡ 1) ↔ Marked shape views g t p) (sym (pages t)) ((λ b. old.0 (sym same ∙ b)), (λ y. same ∙ old.1 y));
       collected_words = f.collected_words;

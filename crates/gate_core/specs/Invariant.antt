@@ -3,7 +3,7 @@
 -- The words are the current-slot word, four gate words and the bit words of four slots. The views are one list: the
 -- keeper's, the passes', and the blank ones of passes that were gathered. Read `PlaneFits` first, at the end: it is the
 -- invariant for the keeper's duties d and its entries, and `PlaneInvariant` says that they are the keeper's own.
-use Rattle.std.specs.Prelude.{◌≡◌, ℕ, ◌+◌, ◌*◌, ◌/◌, ◌%◌, ◌<◌, ◌≤◌, ◌==◌, Bool, T, true, false, cond, nat_lt, List, [], ◌∷◌, length, slice_index, ◌⊎◌, ◌↔◌}
+use Rattle.std.specs.Prelude.{◌≡◌, ℕ, ◌+◌, ◌*◌, ◌/◌, ◌%◌, ◌<◌, ◌≤◌, ◌==◌, Bool, T, true, false, cond, nat_lt, List, [], ◌∷◌, length, slice_index, slice_index_or, ◌⊎◌, ◌↔◌}
 use Rattle.std.specs.Int.{bit_at}
 use mathlib.Core.Option.{some}
 use lib.ListN.{get_elem?}
@@ -17,7 +17,7 @@ use Rattle.bloom_page.specs.Bits.{bit_in}
 use Rattle.gate_core.specs.Marks.{width, size}
 use Rattle.hash_family.specs.Entries.{IsAmong, IsMarked}
 use Rattle.spie_base.specs.Shapes.{IsShape}
-use Rattle.gate_core.specs.Views.{Visit, Probed, Role, Spent, Pass, Keeper, Duties, View, blank, slot_at, collected_of}
+use Rattle.gate_core.specs.Views.{Visit, Probed, Role, Spent, Pass, Keeper, Slot, Duties, View, blank, no_slot, slot_at, collected_of}
 use Rattle.gate_core.specs.Acts.{inside_of, seal_of, page_of, gate_place, bit_place, word_count}
 use Rattle.gate_core.specs.declared.limits.TheConstants.{MOST_PASSES, SLOTS}
 
@@ -127,44 +127,73 @@ IsCollected shape d page = length (collected_of d page) ≡ width shape
 
 -- ---- the keeper's slots and pages
 
+-- the part of the keeper's duties that says where pages are
+pub record SlotBook : Type 0 where
+  pub slots : List Slot
+  pub next : ℕ
+  pub pointed : ℕ
+  pub collected : List (List ℕ)
+
+abbrev pub book : Duties → SlotBook
+book d = record { slots = d.slots; next = d.next; pointed = d.pointed; collected = d.collected }
+
+abbrev pub booked : SlotBook → ℕ → Slot
+booked b s = slice_index_or b.slots s no_slot
+
+abbrev pub words_booked : SlotBook → ℕ → List ℕ
+words_booked b page = slice_index_or b.collected page []
+
+abbrev pub IsCollectedIn : PageShape → SlotBook → ℕ → Type 0
+IsCollectedIn shape b page = length (words_booked b page) ≡ width shape
+
+-- bit p of the page in the slot
+abbrev pub page_bit_in : PageShape → List ℕ → SlotBook → ℕ → ℕ → ℕ
+page_bit_in shape words b s p = let got = words_booked b (booked b s).page in cond (nat_lt (p / 64) (length got)) (bit_in got p) (live_bit shape words s p)
+
 -- The slots, their pages and the collected words, as the keeper knows them
-pub record SlotsFit (shape : PageShape) (d : Duties) : Type 0 where
+pub record SlotBookFits (shape : PageShape) (d : SlotBook) : Type 0 where
   -- there are four slots
   pub four : length d.slots ≡ SLOTS
   -- the slot that the keeper last pointed at is one of them
   pub pointed_slot : d.pointed < SLOTS
   -- in the slot that the keeper last pointed at a page was opened
-  pub pointed_used : (slot_at d d.pointed).used ≡ true
+  pub pointed_used : (booked d d.pointed).used ≡ true
   -- an Open slot has the greatest page below the next page, so at most one slot is Open
-  pub open_last : (s : ℕ) → s < SLOTS → (slot_at d s).phase ≡ Open → (slot_at d s).page + 1 ≡ d.next
+  pub open_last : (s : ℕ) → s < SLOTS → (booked d s).phase ≡ Open → (booked d s).page + 1 ≡ d.next
   -- in a slot that is Open, Sealed or Quiet a page was opened
-  pub stands_used : (s : ℕ) → s < SLOTS → HasPage (slot_at d s).phase → (slot_at d s).used ≡ true
+  pub stands_used : (s : ℕ) → s < SLOTS → HasPage (booked d s).phase → (booked d s).used ≡ true
   -- the pages of the slots in which a page was ever opened are below the next page
-  pub used_below : (s : ℕ) → s < SLOTS → (slot_at d s).used ≡ true → (slot_at d s).page < d.next
+  pub used_below : (s : ℕ) → s < SLOTS → (booked d s).used ≡ true → (booked d s).page < d.next
   -- the slots in which a page was ever opened have different pages
-  pub used_apart : (s t : ℕ) → s < SLOTS → t < SLOTS → (slot_at d s).used ≡ true → (slot_at d t).used ≡ true → (slot_at d s).page ≡ (slot_at d t).page → s ≡ t
+  pub used_apart : (s t : ℕ) → s < SLOTS → t < SLOTS → (booked d s).used ≡ true → (booked d t).used ≡ true → (booked d s).page ≡ (booked d t).page → s ≡ t
   -- no slot has a page above the next page, whether or not one was opened in it
-  pub page_within : (s : ℕ) → s < SLOTS → (slot_at d s).page ≤ d.next
+  pub page_within : (s : ℕ) → s < SLOTS → (booked d s).page ≤ d.next
   -- each page below the next page is collected or stands in a slot that is Open, Sealed or Quiet
-  pub placed : (page : ℕ) → page < d.next → IsCollected shape d page ⊎ ((s : ℕ) × (s < SLOTS) × HasPage (slot_at d s).phase × ((slot_at d s).page ≡ page))
+  pub placed : (page : ℕ) → page < d.next → IsCollectedIn shape d page ⊎ ((s : ℕ) × (s < SLOTS) × HasPage (booked d s).phase × ((booked d s).page ≡ page))
   -- only pages below the next page have collected words
   pub one_list : length d.collected ≡ d.next
   -- of a page that stands in a Quiet slot the words before `next` are collected, of one in an Open or Sealed slot none
-  pub taken_words : (s : ℕ) → s < SLOTS → HasPage (slot_at d s).phase → length (collected_of d (slot_at d s).page) ≡ taken (slot_at d s).phase
+  pub taken_words : (s : ℕ) → s < SLOTS → HasPage (booked d s).phase → length (words_booked d (booked d s).page) ≡ taken (booked d s).phase
   -- `next` of a Quiet slot is below the number of a slot's words
-  pub taken_short : (s : ℕ) → s < SLOTS → taken (slot_at d s).phase < width shape
+  pub taken_short : (s : ℕ) → s < SLOTS → taken (booked d s).phase < width shape
   -- the next page is below 2^32, as the page in a gate has 32 bits
   pub fits : d.next < 4294967296
+
+abbrev pub SlotsFit : PageShape → Duties → Type 0
+SlotsFit shape d = SlotBookFits shape (book d)
 
 -- ---- each actor
 
 -- The slot of a Looked, Inside or Visiting state is one in which a page was opened, and its page is not below the actor's
 -- floor. An actor Inside has the slot's page, the slot is Open or Sealed, and the marks set are at most k
+abbrev pub StateFitsIn : PageShape → SlotBook → ℕ → PassState → Type 0
+StateFitsIn shape d floor Idle = Unit {0}
+StateFitsIn shape d floor (Looked s) = (s < SLOTS) × ((booked d s).used ≡ true) × (floor ≤ (booked d s).page)
+StateFitsIn shape d floor (Inside s page sig m) = (s < SLOTS) × ((booked d s).used ≡ true) × (floor ≤ (booked d s).page) × (page.number ≡ (booked d s).page) × IsLive (booked d s).phase × (m ≤ shape.k)
+StateFitsIn shape d floor (Visiting s gate) = (s < SLOTS) × ((booked d s).used ≡ true) × (floor ≤ (booked d s).page)
+
 abbrev pub StateFits : PageShape → Duties → ℕ → PassState → Type 0
-StateFits shape d floor Idle = Unit {0}
-StateFits shape d floor (Looked s) = (s < SLOTS) × ((slot_at d s).used ≡ true) × (floor ≤ (slot_at d s).page)
-StateFits shape d floor (Inside s page sig m) = (s < SLOTS) × ((slot_at d s).used ≡ true) × (floor ≤ (slot_at d s).page) × (page.number ≡ (slot_at d s).page) × IsLive (slot_at d s).phase × (m ≤ shape.k)
-StateFits shape d floor (Visiting s gate) = (s < SLOTS) × ((slot_at d s).used ≡ true) × (floor ≤ (slot_at d s).page)
+StateFits shape d floor st = StateFitsIn shape (book d) floor st
 
 -- an actor Inside has no smaller page than its entries
 abbrev pub IsLast : List Entry → PassState → Type 0
@@ -174,7 +203,7 @@ IsLast es (Inside s page sig m) = (i : ℕ) (e : Entry) → get_elem? es i ≡ s
 IsLast es (Visiting s gate) = Unit {0}
 
 -- An `enter` that read a sealed gate
-pub record VisitFits (d : Duties) (floor : ℕ) (x : Visit) : Type 0 where
+pub record VisitFitsIn (d : SlotBook) (floor : ℕ) (x : Visit) : Type 0 where
   -- the gate that it read has bit 16
   pub sealed_gate : seal_of x.gate ≡ 1
   -- the page in that gate is below the next page
@@ -182,12 +211,15 @@ pub record VisitFits (d : Duties) (floor : ℕ) (x : Visit) : Type 0 where
   -- the page in that gate is not below the actor's floor
   pub from_floor : floor ≤ page_of x.gate
   -- the page in that gate stands in no Open slot
-  pub not_open : (s : ℕ) → s < SLOTS → (slot_at d s).phase ≡ Open → ¬ ((slot_at d s).page ≡ page_of x.gate)
+  pub not_open : (s : ℕ) → s < SLOTS → (booked d s).phase ≡ Open → ¬ ((booked d s).page ≡ page_of x.gate)
+
+abbrev pub VisitFits : Duties → ℕ → Visit → Type 0
+VisitFits d floor x = VisitFitsIn (book d) floor x
 
 -- One actor, whatever its role
-pub record ActorFits (shape : PageShape) (d : Duties) (v : View) : Type 0 where
+pub record ActorFitsIn (shape : PageShape) (d : SlotBook) (dealt : ℕ) (v : View) : Type 0 where
   -- its state fits the slots
-  pub state : StateFits shape d v.floor v.state
+  pub state : StateFitsIn shape d v.floor v.state
   -- the page of each entry is below the next page and not below the floor
   pub entries : (i : ℕ) (e : Entry) → get_elem? v.entries i ≡ some e → (e.page.number < d.next) × (v.floor ≤ e.page.number)
   -- the entries of a pass stand in order of their pages
@@ -195,20 +227,23 @@ pub record ActorFits (shape : PageShape) (d : Duties) (v : View) : Type 0 where
   -- a pass that is Inside has no smaller page than its entries
   pub last : v.role ≡ Pass → IsLast v.entries v.state
   -- each visit is of a sealed gate
-  pub visits : (i : ℕ) (x : Visit) → get_elem? v.visits i ≡ some x → VisitFits d v.floor x
+  pub visits : (i : ℕ) (x : Visit) → get_elem? v.visits i ≡ some x → VisitFitsIn d v.floor x
   -- the page of the current slot is not below the floor
-  pub floor : v.floor ≤ (slot_at d d.pointed).page
+  pub floor : v.floor ≤ (booked d d.pointed).page
   -- the number of a pass is below the number of passes ever dealt
-  pub number : v.role ≡ Pass → v.number < d.dealt
+  pub number : v.role ≡ Pass → v.number < dealt
   -- the floor of the keeper is 0
   pub base : v.role ≡ Keeper → v.floor ≡ 0
   -- nothing is left of a pass that was gathered
   pub gone : v.role ≡ Spent → v ≡ blank
 
+abbrev pub ActorFits : PageShape → Duties → View → Type 0
+ActorFits shape d v = ActorFitsIn shape (book d) d.dealt v
+
 -- ---- each probe
 
 -- A bit that the keeper read, `mine` being its entries
-pub record ProbeFits (shape : PageShape) (words : List ℕ) (d : Duties) (mine : List Entry) (x : Probed) : Type 0 where
+pub record ProbeFitsIn (shape : PageShape) (words : List ℕ) (d : SlotBook) (mine : List Entry) (x : Probed) : Type 0 where
   -- its page is below the next page
   pub page_below : x.page < d.next
   -- its position is one of a page's
@@ -216,9 +251,12 @@ pub record ProbeFits (shape : PageShape) (words : List ℕ) (d : Duties) (mine :
   -- the number of entries that it noted is at most the number of the keeper's entries
   pub known : x.known ≤ length mine
   -- a position that was read as set is set in the collected or in the live words of the page
-  pub seen : x.bit ≡ true → (IsCollected shape d x.page × (bit_in (collected_of d x.page) x.at ≡ 1)) ⊎ ((s : ℕ) × (s < SLOTS) × HasPage (slot_at d s).phase × ((slot_at d s).page ≡ x.page) × (page_bit shape words d s x.at ≡ 1))
+  pub seen : x.bit ≡ true → (IsCollectedIn shape d x.page × (bit_in (words_booked d x.page) x.at ≡ 1)) ⊎ ((s : ℕ) × (s < SLOTS) × HasPage (booked d s).phase × ((booked d s).page ≡ x.page) × (page_bit_in shape words d s x.at ≡ 1))
   -- a position that was read as not set is no mark of an entry of the page among those that the keeper then had
   pub unseen : x.bit ≡ false → (i : ℕ) (e : Entry) → i < x.known → get_elem? mine i ≡ some e → e.page.number ≡ x.page → ¬ IsAmong shape x.page e.sig shape.k x.at
+
+abbrev pub ProbeFits : PageShape → List ℕ → Duties → List Entry → Probed → Type 0
+ProbeFits shape words d mine x = ProbeFitsIn shape words (book d) mine x
 
 -- ---- the whole
 
