@@ -2,6 +2,7 @@
 use Rattle.std.specs.Prelude.{ℕ, ◌+◌, ◌-◌, ◌==◌, List, length, take, bit_xor, slice_set, slice_index_or, Option, Some, None, option_map, option_and_then, Vec, if◌then◌else◌}
 use Rattle.std.specs.declared.alloc.Global.{Global}
 use Rattle.page_shelf.specs.Memory.{held_by}
+use Rattle.page_shelf.specs.Shelves.{Contents}
 use Rattle.page_shelf.specs.declared.bent.BentShelf.{BentShelf}
 use Rattle.page_shelf.specs.declared.bent.Bend.{Bend}
 use Rattle.page_shelf.specs.declared.bent.Bend.TheVariants.{Flip, Cut, Gone}
@@ -36,6 +37,10 @@ bent_of s = record { number = s.bent; bend = s.bend; gets = s.gets }
 -- the shelf beneath it
 abbrev pub shelf_in : BentShelf → MemShelf
 shelf_in s = s.inner
+
+-- what stands under each name of it, whatever its gets hand out
+abbrev pub held_in : BentShelf → Contents
+held_in s = held_by s.inner
 
 abbrev pub bytes_of : Option (Vec ℕ Global) → Option (List ℕ)
 bytes_of got = option_map (λ (bytes : Vec ℕ Global). bytes.items) got

@@ -1,10 +1,12 @@
 // A shelf that lies once, for tests.
-ghost use Rattle.std.specs.Prelude.{◌≡◌, ◌≤◌, ◌+◌, vec_len, IfOk, IfSome};
-ghost use Rattle.page_shelf.specs.Bent.{bent_by, bent_of, bytes_of, flipped, handed_out, shelf_in};
+ghost use Rattle.std.specs.Prelude.{true, ◌≡◌, ◌≤◌, ◌+◌, ◌↔◌, vec_len, IfOk, IfSome, OnErr, OnOk, IsErrOf, None, Some};
+ghost use Rattle.page_shelf.specs.Bent.{bent_by, bent_of, bytes_of, flipped, handed_out, held_in, shelf_in};
 ghost use Rattle.spie_base.specs.Memory.{counted};
 ghost use Rattle.page_shelf.specs.declared.bent.Bend.TheVariants.{Flip};
-ghost use Rattle.page_shelf.specs.Memory.{IsCounted, calls_of};
-ghost use Rattle.page_shelf.specs.Shelves.{IsCaused};
+ghost use Rattle.page_shelf.specs.declared.names.ShelfName.{ShelfName};
+ghost use Rattle.page_shelf.specs.declared.names.ShelfRefused.TheVariants.{Failed};
+ghost use Rattle.page_shelf.specs.Memory.{IsCounted, calls_of, fails_now};
+ghost use Rattle.page_shelf.specs.Shelves.{IsCaused, IsSame, IsSet};
 
 use crate::{MemShelf, Shelf, ShelfName, ShelfRefused};
 use std::alloc::Global;
@@ -90,7 +92,14 @@ impl Shelf for BentShelf {
 
     ghost faults = { λ s. s.inner.faults };
 
-    fn put(&mut self, alloc: Global, name: &ShelfName, bytes: &[u8]) -> Result<(), ShelfRefused> {
+    fn put(&mut self, alloc: Global, name: &ShelfName, bytes: &[u8]) -> Result<(), ShelfRefused>
+        ensures cause { IsCaused (calls_of (shelf_in self.old)).failed (calls_of (shelf_in self.new)).failed result }
+        ensures set { OnOk result (IsSet name.now (Some bytes.now) (held_in self.old) (held_in self.new)) }
+        ensures same { OnErr result (IsSame (held_in self.old) (held_in self.new)) }
+        ensures failed { IsErrOf result Failed ↔ (fails_now (calls_of (shelf_in self.old)) ≡ true) }
+        ensures counted { IsCounted (calls_of (shelf_in self.old)) (calls_of (shelf_in self.new)) }
+        ensures bent { bent_of self.new ≡ bent_of self.old }
+    {
         self.inner.put(alloc, name, bytes)
     }
 
@@ -105,6 +114,8 @@ impl Shelf for BentShelf {
 
         // Which get is bent, and how.
         ensures handed { IfOk result (λ got. bytes_of got ≡ handed_out self.old name.now most) }
+        ensures same { IsSame (held_in self.old) (held_in self.new) }
+        ensures failed { IsErrOf result Failed ↔ (fails_now (calls_of (shelf_in self.old)) ≡ true) }
         ensures counted { IsCounted (calls_of (shelf_in self.old)) (calls_of (shelf_in self.new)) }
         ensures bent { bent_of self.new ≡ record (bent_of self.old) { gets = counted self.old.gets } }
     {
@@ -116,7 +127,14 @@ impl Shelf for BentShelf {
         }
     }
 
-    fn discard(&mut self, alloc: Global, name: &ShelfName) -> Result<(), ShelfRefused> {
+    fn discard(&mut self, alloc: Global, name: &ShelfName) -> Result<(), ShelfRefused>
+        ensures cause { IsCaused (calls_of (shelf_in self.old)).failed (calls_of (shelf_in self.new)).failed result }
+        ensures set { OnOk result (IsSet name.now None (held_in self.old) (held_in self.new)) }
+        ensures same { OnErr result (IsSame (held_in self.old) (held_in self.new)) }
+        ensures failed { IsErrOf result Failed ↔ (fails_now (calls_of (shelf_in self.old)) ≡ true) }
+        ensures counted { IsCounted (calls_of (shelf_in self.old)) (calls_of (shelf_in self.new)) }
+        ensures bent { bent_of self.new ≡ bent_of self.old }
+    {
         self.inner.discard(alloc, name)
     }
 }
