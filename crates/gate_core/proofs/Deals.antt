@@ -6,10 +6,10 @@ use native.Mathlib.Decide.{ℕ_discrete}
 use lib.ListN.{get_elem?}
 use Rattle.spie_base.specs.declared.PageShape.{PageShape}
 use Rattle.gate_core.specs.declared.states.PassState.{PassState}
-use Rattle.gate_core.specs.declared.states.PassState.TheVariants.{Idle, Looked, Inside, Visiting}
+use Rattle.gate_core.specs.declared.states.PassState.TheVariants.{Idle}
 use Rattle.gate_core.specs.Views.{Spent, Pass, Keeper, Duties, View, blank, slot_at}
 use Rattle.gate_core.specs.Acts.{dealer_view, dealt_view, gathered_view}
-use Rattle.gate_core.specs.Invariant.{total, counts_in, in_slot, pass_role, keeper_role, is_pass, is_keeper, StateFits, HasSet, Recorded, SlotsFit, ActorFits, PlaneFits, PlaneInvariant}
+use Rattle.gate_core.specs.Invariant.{total, counts_in, in_slot, pass_role, keeper_role, is_pass, is_keeper, HasSet, Recorded, SlotsFit, ActorFits, PlaneFits, PlaneInvariant}
 use Rattle.hash_family.specs.Entries.{IsMarked}
 use Rattle.gate_core.proofs.Lists.{at_set, set_here, set_else, at_longer, at_snoc, same_at, total-set, term_le}
 

@@ -6,14 +6,12 @@ use Rattle.std.proofs.lemmas.List.{set-get_or}
 use mathlib.Core.Option.{some}
 use lib.ListN.{get_elem?}
 use Rattle.spie_base.specs.declared.PageShape.{PageShape}
-use Rattle.gate_core.specs.declared.states.PassState.{PassState}
-use Rattle.gate_core.specs.declared.states.PassState.TheVariants.{Idle, Looked, Inside, Visiting}
 use Rattle.gate_core.specs.declared.states.SlotPhase.{SlotPhase}
 use Rattle.gate_core.specs.declared.states.SlotPhase.TheVariants.{Free, Open, Sealed, Quiet}
 use Rattle.gate_core.specs.Marks.{size, width}
 use Rattle.gate_core.specs.Views.{Probed, Keeper, Duties, View, slot_at, Slot}
 use Rattle.gate_core.specs.Acts.{bit_place, with_duties, after_probe, CanProbe}
-use Rattle.gate_core.specs.Invariant.{HasPage, taken, page_bit, StateFits, SlotsFit, ActorFits, ProbeFits, PlaneFits, PlaneInvariant}
+use Rattle.gate_core.specs.Invariant.{HasPage, taken, page_bit, ProbeFits, PlaneFits, PlaneInvariant}
 use Rattle.std.specs.Prelude.{vec_capacity, Vec}
 use Rattle.std.specs.declared.alloc.Global.{Global}
 use Rattle.gate_core.specs.declared.steps.Act.TheVariants.{Probe}

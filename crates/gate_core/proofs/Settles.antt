@@ -11,7 +11,7 @@ use Rattle.gate_core.specs.declared.states.SlotPhase.TheVariants.{Free, Open, Se
 use Rattle.bloom_page.specs.Bits.{bit_in}
 use Rattle.gate_core.specs.Views.{Keeper, Duties, View, slot_at, collected_of, Slot}
 use Rattle.gate_core.specs.Acts.{inside_of, gate_place, bit_place, in_phase, with_duties, busy, after_settle, IsSealed}
-use Rattle.gate_core.specs.Invariant.{total, counts_in, in_slot, seal_bit, HasPage, IsLive, taken, page_bit, Marked, StateFits, SlotsFit, ActorFits, PlaneFits, PlaneInvariant}
+use Rattle.gate_core.specs.Invariant.{total, counts_in, in_slot, seal_bit, HasPage, IsLive, taken, page_bit, Marked, StateFits, ActorFits, PlaneFits, PlaneInvariant}
 use Rattle.gate_core.specs.declared.steps.Act.TheVariants.{Settle}
 use Rattle.gate_core.specs.declared.steps.StepAnswer.{StepAnswer}
 use Rattle.gate_core.specs.declared.steps.StepAnswer.TheVariants as answer
