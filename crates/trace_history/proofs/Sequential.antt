@@ -111,7 +111,7 @@ grow_by rules r line history (ticked time left) e = omega arith
 grow_by rules r line history (queried query left) e = omega arith
 grow_by rules r line history (ended left) e = omega arith
 
-grow : (rules : RouterRules) (r : ℕ) (history : History) → open_at rules r history ≡ open_at rules r (up_to_barrier history) + length (openings r (segment history))
+pub grow : (rules : RouterRules) (r : ℕ) (history : History) → open_at rules r history ≡ open_at rules r (up_to_barrier history) + length (openings r (segment history))
 grow rules r [] = refl
 grow rules r (d ∷ history) = grow_by rules r d.line history d.event (grow rules r history)
 

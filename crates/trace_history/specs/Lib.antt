@@ -10,3 +10,4 @@ pub mod Routes
 pub mod Sights
 pub mod Watched
 pub mod Workers
+pub mod Apart
