@@ -66,10 +66,10 @@ pub turned_on : {T E : Type 0} (result : Result T E) (old new : Agent) (l : Ledg
 turned_on (Ok x) old new l clock s told = record { stands = told the_rules l nothing_unfinished (record { out = 2; since = 0 }) s.stands }
 turned_on (Err e) old new l clock s told = tt
 
-pub archived_on : {T E : Type 0} (R : Unfinished → Type 0) (tells : Bool) (before after : Contents) (result : Result T E) (old new : Agent) → IsAt old after_four
-    → OnOk result ((more : Unfinished) × ((away : Away) → IsNotedBeside (meaning_beside old away) (meaning_beside new away) more tells before after) × R more) → OnOk result (IsArchived new)
-archived_on R tells before after (Ok x) old new s (more, told, rose) = record {
+pub archived_on : {T E : Type 0} (Q R : Unfinished → Type 0) (tells : Bool) (before after : Contents) (result : Result T E) (old new : Agent) → IsAt old after_four
+    → OnOk result ((more : Unfinished) × Q more × ((away : Away) → IsNotedBeside (meaning_beside old away) (meaning_beside new away) more tells before after) × R more) → OnOk result (IsArchived new)
+archived_on Q R tells before after (Ok x) old new s (more, alone, told, rose) = record {
   unfinished = with_more nothing_unfinished more;
   stands = (told (record { out = 2; since = 0 })).noted the_rules after_four nothing_unfinished s.stands;
 }
-archived_on R tells before after (Err e) old new s told = tt
+archived_on Q R tells before after (Err e) old new s told = tt

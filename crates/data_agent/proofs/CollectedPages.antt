@@ -19,6 +19,7 @@ use Rattle.gate_core.specs.Views.{collected_of, no_slot, slot_at}
 use Rattle.gate_core.proofs.Readings.{met_fits}
 use Rattle.gate_core.proofs.Slots.{page_same, phase_case, slot_here}
 use Rattle.page_gate.specs.Held.{Held}
+use Rattle.page_gate.specs.Probes.{marked_set}
 use Rattle.page_gate.specs.Pages.{AreAllMarks, collected_held, phase_with, slot_with}
 use Rattle.page_gate.specs.Slots.{IsWaiting, StaysOpen, free_count, is_free, is_waiting}
 use Rattle.page_gate.specs.Steps.{IsMet}
@@ -149,3 +150,10 @@ collected_gathered shape (Ok p) k k2 page words is all = λ at small marked.
     let entries : all.rule.head.entries ≡ k.view.entries = ap (λ (v : View). v.entries) all.keeper ∙ ap (λ (h : Held). h.view.entries) is in
     (all.marks at small).1 (all.rule.place, all.rule.head, all.rule.there, subst (λ (es : List Entry). IsMarked shape es page at) (sym entries) marked)
 collected_gathered shape (Err e) k k2 page words is all = tt
+
+-- with no pass out they are the marks of the keeper's entries
+pub collected_alone : {E : Type 0} (shape : PageShape) (result : Result PageSet E) (k k2 : Held) (page : ℕ) (words : List ℕ) → OnOk result (k2 ≡ collected_held k page words)
+    → IfOk result (λ p. k2.view.duties.out ≡ 0 → p ≡ marked_set shape k2.view.entries page) → IfOk result (λ p. k.view.duties.out ≡ 0 → p ≡ marked_set shape k.view.entries page)
+collected_alone shape (Ok p) k k2 page words is alone = λ none.
+    alone (ap (λ (h : Held). h.view.duties.out) is ∙ none) ∙ ap (λ (h : Held). marked_set shape h.view.entries page) is
+collected_alone shape (Err e) k k2 page words is alone = tt

@@ -15,12 +15,10 @@ use Rattle.data_agent.specs.declared.agent.Agent.{Agent}
 use Rattle.data_agent.specs.declared.archival.Note.{Note}
 use Rattle.data_agent.specs.declared.closed_page.Whereabouts.{Whereabouts}
 use Rattle.data_agent.specs.declared.closed_page.Whereabouts.TheVariants.{InMemory, OnShelf}
-use Rattle.data_agent.specs.Archiving.{IsDigest, IsSized, KnowsPages, NotesTo, StaysBeside, held_bits, held_text, members_at, place_at, some_page}
+use Rattle.data_agent.specs.Archiving.{IsDigest, IsSized, KnowsPages, NotesTo, KeepsStanding, held_bits, held_text, members_at, place_at, some_page}
 use Rattle.data_agent.specs.Beside.{AreBitsBeside, Away, HasNotesBeside, IsPlacedBeside, IsPutDigest, StandsBeside, meaning_beside}
 use Rattle.data_agent.specs.Calls.{IsNotedBeside, with_more}
 use Rattle.data_agent.specs.Standing.{digest_of, noted_page, standing}
-use Rattle.data_agent.proofs.Besides.{reads_then}
-use Rattle.data_agent.proofs.Planes.{rest_then}
 use Rattle.data_agent.proofs.Covering.{bits_then, covered_is, holds_noted, holds_still, more_of, noted_closed, only_noted, put_of, put_then}
 
 -- ---- what the agent knows
@@ -150,27 +148,15 @@ archived_beside agent notes x z none all away =
       untouched = λ rules l u s t. only_noted agent rules l notes.items x z s.expired s.pages.page (noted rules l u s) t;
     }
 
--- ---- what stays while pages are collected
-
-pub stays_same : (agent : Agent) → StaysBeside agent agent
-stays_same agent = record { rest = record { catalogue = refl; page = refl; noted = refl; entries = refl }; beside = λ rules l u away s. s; reads = λ page sig read. read }
-
-pub stays_then : (a b c : Agent) → StaysBeside a b → StaysBeside b c → StaysBeside a c
-stays_then a b c x y = record {
-  rest = rest_then a b c x.rest y.rest;
-  beside = λ rules l u away s. y.beside rules l u away (x.beside rules l u away s);
-  reads = reads_then a b c x.reads y.reads;
-}
-
 -- ---- an archival of an agent that collected pages first
 
-pub noted_before : (old middle new : Agent) (away : Away) (some : Unfinished) (tells : Bool) (before after : Contents) → StaysBeside old middle → IsNotedBeside (meaning_beside middle away) (meaning_beside new away) some tells before after
+pub noted_before : (old middle new : Agent) (away : Away) (some : Unfinished) (tells : Bool) (before after : Contents) → KeepsStanding old middle → IsNotedBeside (meaning_beside middle away) (meaning_beside new away) some tells before after
     → IsNotedBeside (meaning_beside old away) (meaning_beside new away) some tells before after
-noted_before old middle new away some tells before after stays is = record {
-  noted = λ rules l u s. is.noted rules l u (stays.beside rules l u away s);
-  closed = λ rules l u s. is.closed rules l u (stays.beside rules l u away s);
-  holds = λ rules l u s. is.holds rules l u (stays.beside rules l u away s);
-  holds_bits = λ rules l u s. is.holds_bits rules l u (stays.beside rules l u away s);
-  others = λ rules l u s. is.others rules l u (stays.beside rules l u away s);
-  untouched = λ rules l u s. is.untouched rules l u (stays.beside rules l u away s);
+noted_before old middle new away some tells before after keeps is = record {
+  noted = λ rules l u s. is.noted rules l u (keeps.beside rules l u away s);
+  closed = λ rules l u s. is.closed rules l u (keeps.beside rules l u away s);
+  holds = λ rules l u s. is.holds rules l u (keeps.beside rules l u away s);
+  holds_bits = λ rules l u s. is.holds_bits rules l u (keeps.beside rules l u away s);
+  others = λ rules l u s. is.others rules l u (keeps.beside rules l u away s);
+  untouched = λ rules l u s. is.untouched rules l u (keeps.beside rules l u away s);
 }

@@ -13,29 +13,18 @@ use Rattle.hash_family.specs.Positions.{marks_of, position}
 use Rattle.hash_family.proofs.EntryFacts.{marked-from_test, test-from_marked}
 use Rattle.hash_family.proofs.PositionFacts.{get_or-marks_of, length-marks_of, marks_of-below}
 use Rattle.spie_base.proofs.Membership.{from_filter, into_filter}
-use Rattle.gate_core.specs.declared.states.SlotPhase.TheVariants.{Sealed}
-use Rattle.gate_core.specs.declared.view.Duties.{Duties}
-use Rattle.gate_core.specs.Acts.{IsQuiet}
 use Rattle.gate_core.specs.Invariant.{HasPage}
 use Rattle.gate_core.specs.Views.{first_keeper}
 use Rattle.gate_core.proofs.Starts as starts
 use Rattle.page_gate.specs.Held.{Held, Home, recorded_held}
-use Rattle.page_gate.specs.Pages.{collected_held, collected_page, phase_with}
+use Rattle.page_gate.specs.Pages.{phase_with}
 use Rattle.page_gate.specs.Probes.{HaveAllMarks, OnlyProbes, Probes, marked_set}
-use Rattle.page_gate.specs.Rotated.{rotated_held}
-use Rattle.page_gate.specs.Settled.{SettledNow}
-use Rattle.page_gate.specs.Slots.{HasOpen, IsWaiting, StaysOpen, free_count, open_page}
+use Rattle.page_gate.specs.Slots.{HasOpen, IsWaiting, free_count}
 use Rattle.page_gate.specs.Steps.{IsMet}
-use Rattle.page_gate.specs.declared.settle.Settled.{Settled}
-use Rattle.page_gate.specs.declared.settle.Settled.TheVariants as settled
-use Rattle.data_agent.specs.Beside.{IsMinding, KeepsWords}
+use Rattle.data_agent.specs.Beside.{IsMinding}
 use Rattle.data_agent.specs.Members.{HaveSameMembers}
 use Rattle.data_agent.specs.Standing.{IsKeeping}
-use Rattle.data_agent.proofs.CollectedPages.{collected_room, minded_collected}
 use Rattle.data_agent.proofs.Minding.{minded_probed, minded_stands, next_minded, some_waits}
-use Rattle.data_agent.proofs.SettledPages.{minded_settled, words_settled}
-use Rattle.data_agent.proofs.TurnedPages.{minded_turned}
-use Rattle.data_agent.proofs.Results.{if_ok, on_ok, on_err_from}
 use Rattle.data_agent.proofs.SameMembers.{marked_members, members_from, members_more, same_members}
 
 -- ---- the start
@@ -86,7 +75,7 @@ pub minding_of : (shape : PageShape) (k : Held) (entries : List Entry) (first la
 minding_of shape k entries first last s = record { role = s.role; fits = s.fits; has_open = s.has_open; open_is = s.open_is; order = s.order; stand = s.stand; only = s.only }
 
 -- a keeper that keeps its entries, and beside which no pass is out
-keeping_of : (shape : PageShape) (k k2 : Held) (entries : List Entry) (first last first' last' : ℕ) → IsKeeping shape k entries first last → k2.view.entries ≡ k.view.entries → k2.view.duties.out ≡ k.view.duties.out
+pub keeping_of : (shape : PageShape) (k k2 : Held) (entries : List Entry) (first last first' last' : ℕ) → IsKeeping shape k entries first last → k2.view.entries ≡ k.view.entries → k2.view.duties.out ≡ k.view.duties.out
     → IsMinding shape k2 first' last' → IsKeeping shape k2 entries first' last'
 keeping_of shape k k2 entries first last first' last' s same out m = record {
   role = m.role;
@@ -110,78 +99,6 @@ module _ (shape : PageShape) (k : Held) (entries : List Entry) (first last : ℕ
   -- where no slot is free, a page is closed
   pub some_stand : free_count k.view.duties ≡ 0 → first < last
   some_stand = some_waits shape k first last (minding_of shape k entries first last s)
-
--- ---- a page is settled
-
-module _ (shape : PageShape) (k k2 : Held) (entries : List Entry) (first last page : ℕ) (t : Settled) (s : IsKeeping shape k entries first last) (from : first ≤ page) (to : page < last)
-    (before : IsQuiet (phase_with k.view.duties page) → (t ≡ settled.Quiet) × (k2 ≡ k)) (now : phase_with k.view.duties page ≡ Sealed → SettledNow k k2 page t × IsMet shape k2.view) where
-  settled_knows : KeepsWords shape k k2
-  settled_knows = words_settled shape k k2 page t before now first last from to (minding_of shape k entries first last s)
-
-  pub kept_settled : StaysOpen k.view.duties k2.view.duties → IsKeeping shape k2 entries first last
-  kept_settled stays = keeping_of shape k k2 entries first last first last s settled_knows.entries settled_knows.out
-      (minded_settled shape k k2 page t before now first last from to stays (minding_of shape k entries first last s))
-
-  pub settled_table : k2.table ≡ k.table
-  settled_table = settled_knows.table
-
-  pub settled_entries : k2.view.entries ≡ k.view.entries
-  settled_entries = settled_knows.entries
-
--- ---- a page is collected
-
--- in the forms in which `collect` tells it
-
-pub collected_table : {A E : Type 0} (result : Result A E) (k k2 : Held) (page : ℕ) (words : List ℕ) → OnOk result (k2 ≡ collected_held k page words) → OnErr result (k2 ≡ k) → k2.table ≡ k.table
-collected_table (Ok p) k k2 page words is unchanged = ap (λ (h : Held). h.table) is
-collected_table (Err e) k k2 page words is unchanged = ap (λ (h : Held). h.table) unchanged
-
-pub collected_size : {E : Type 0} (shape : PageShape) (result : Result PageSet E) (d : Duties) (page : ℕ) → IfOk result (λ p. p ≡ collected_page shape d page) → IfOk result (λ p. p.n ≡ shape.n)
-collected_size shape (Ok p) d page is = ap (λ (x : PageSet). x.n) is
-collected_size shape (Err e) d page is = tt
-
-pub collected_bits : {E : Type 0} (shape : PageShape) (result : Result PageSet E) (k k2 : Held) (page : ℕ) (words : List ℕ) → OnOk result (k2 ≡ collected_held k page words)
-    → IfOk result (λ p. k2.view.duties.out ≡ 0 → p ≡ marked_set shape k2.view.entries page)
-    → IfOk result (λ p. (entries : List Entry) (last : ℕ) → IsKeeping shape k entries page last → p ≡ marked_set shape entries page)
-collected_bits shape (Ok p) k k2 page words is alone = λ entries last s.
-    alone (ap (λ (h : Held). h.view.duties.out) is ∙ s.alone) ∙ marked_members shape k2.view.entries entries page (members_from k2.view.entries k.view.entries entries (ap (λ (h : Held). h.view.entries) is) s.has)
-collected_bits shape (Err e) k k2 page words is alone = tt
-
-pub collected_free : {E : Type 0} (shape : PageShape) (result : Result PageSet E) (k k2 : Held) (page : ℕ) (words : List ℕ) → OnOk result (k2 ≡ collected_held k page words) → IsQuiet (phase_with k.view.duties page)
-    → ((entries : List Entry) × (last : ℕ) × IsKeeping shape k entries page last) → OnOk result (1 ≤ free_count k2.view.duties)
-collected_free shape result k k2 page words is quiet (entries, last, s) = collected_room shape result k k2 page words quiet (last, minding_of shape k entries page last s) is
-
-pub collected_kept : {E : Type 0} (shape : PageShape) (result : Result PageSet E) (k k2 : Held) (page : ℕ) (words : List ℕ) → OnOk result (k2 ≡ collected_held k page words) → IsQuiet (phase_with k.view.duties page)
-    → OnOk result (IsMet shape k2.view) → OnOk result (StaysOpen k.view.duties k2.view.duties)
-    → OnOk result ((entries : List Entry) (last : ℕ) → IsKeeping shape k entries page last → IsKeeping shape k2 entries (page + 1) last)
-collected_kept shape (Ok p) k k2 page words is quiet met stays = λ entries last s.
-    keeping_of shape k k2 entries page last (page + 1) last s (ap (λ (h : Held). h.view.entries) is) (ap (λ (h : Held). h.view.duties.out) is)
-    (minded_collected shape k k2 page last words (minding_of shape k entries page last s) quiet is met stays)
-collected_kept shape (Err e) k k2 page words is quiet met stays = tt
-
--- the same behind a settle
-
-module _ {E : Type 0} (shape : PageShape) (result : Result PageSet E) (k k1 : Held) where
-  pub taken_bits : (page : ℕ) → ((entries : List Entry) (first last : ℕ) → IsKeeping shape k entries first last → IsKeeping shape k1 entries first last)
-      → IfOk result (λ p. (entries : List Entry) (last : ℕ) → IsKeeping shape k1 entries page last → p ≡ marked_set shape entries page)
-      → IfOk result (λ p. (entries : List Entry) (last : ℕ) → IsKeeping shape k entries page last → p ≡ marked_set shape entries page)
-  taken_bits page same = if_ok result (λ p told entries last s. told entries last (same entries page last s))
-
-  module _ (k2 : Held) (page : ℕ) (same : (entries : List Entry) (first last : ℕ) → IsKeeping shape k entries first last → IsKeeping shape k1 entries first last) where
-    pub taken_kept : OnOk result ((entries : List Entry) (last : ℕ) → IsKeeping shape k1 entries page last → IsKeeping shape k2 entries (page + 1) last)
-        → OnOk result ((entries : List Entry) (last : ℕ) → IsKeeping shape k entries page last → IsKeeping shape k2 entries (page + 1) last)
-    taken_kept = on_ok result (λ told entries last s. told entries last (same entries page last s))
-
-    pub taken_same : OnErr result (k2 ≡ k1) → OnErr result ((entries : List Entry) (last : ℕ) → IsKeeping shape k entries page last → IsKeeping shape k2 entries page last)
-    taken_same = on_err_from result (λ is entries last s. subst (λ (h : Held). IsKeeping shape h entries page last) (sym is) (same entries page last s))
-
--- ---- the open page is closed
-
-pub kept_turned : (shape : PageShape) (k k2 : Held) (entries : List Entry) (first last : ℕ) → IsKeeping shape k entries first last → 1 ≤ free_count k.view.duties → k2 ≡ rotated_held k → IsMet shape k2.view → HasOpen k2.view.duties
-    → open_page k2.view.duties ≡ k.view.duties.next → IsKeeping shape k2 entries first (last + 1)
-kept_turned shape k k2 entries first last s some is met has current =
-    keeping_of shape k k2 entries first last first (last + 1) s (ap (λ (h : Held). h.view.entries) is) (ap (λ (h : Held). h.view.duties.out) is)
-    (minded_turned shape k k2 first last (minding_of shape k entries first last s) some is met has current)
 
 -- ---- bits are read
 

@@ -17,6 +17,7 @@ pub mod Gathering
 pub mod Keeping
 pub mod Kept
 pub mod LastEntries
+pub mod Leaving
 pub mod Looks
 pub mod LooksMore
 pub mod Members

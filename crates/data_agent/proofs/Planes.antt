@@ -1,6 +1,6 @@
 -- An agent and its plane.
 use Rattle.std.proofs.lemmas.Bool.{false≢true}
-use Rattle.std.proofs.Common.{is_some, true, ℕ, ◌≡◌, ◌≤◌, ◌<◌, ◌+◌, ◌∙◌, List, length, Bool, false, not, ◌&&◌, Option, Some, None, sym, ap, subst, refl, inl, inr, arith}
+use Rattle.std.proofs.Common.{is_some, true, ℕ, ◌≡◌, ◌≤◌, ◌∙◌, List, length, Bool, false, not, ◌&&◌, Option, Some, None, sym, ap, subst, refl, inl, inr, arith}
 use Rattle.spie_base.specs.Shapes.{shape_of}
 use Rattle.spie_base.specs.declared.Entry.{Entry}
 use Rattle.spie_base.specs.declared.PageShape.{PageShape}
@@ -134,32 +134,6 @@ probed_shows plane agent rules l sig page answer own s near found =
     found l.account.entries (standing agent) (length l.account.closings) (own_keeping plane agent rules l.account own s.pages)
     ∙ ap (λ (x : PageShape). are_in (marked_set x l.account.entries page).members (marks_of x page sig)) shape
     ∙ ap (λ (b : Bool). not b && are_in (marked_set (shape_of rules l.account.router) l.account.entries page).members (marks_of (shape_of rules l.account.router) page sig)) (sym unput)
-
--- ---- the page that stands in a slot longest
-
-pub take_needs : (plane : PlaneId) (agent : Agent) (page : ℕ) → IsOwnPlane plane agent → ((rules : Rules) × (l : Ledger) × StandsAmid agent rules l × (standing agent < agent.page.number)) → page ≡ standing agent
-    → (entries : List Entry) × (last : ℕ) × IsKeeping plane.shape agent.keeper entries page last × (page < last)
-take_needs plane agent page own (rules, l, s, lt) at =
-    let end = s.pages.page in
-    (l.account.entries, length l.account.closings, subst (λ (n : ℕ). IsKeeping plane.shape agent.keeper l.account.entries n (length l.account.closings)) (sym at) (own_keeping plane agent rules l.account own s.pages), (omega arith))
-
-module _ (plane : PlaneId) (agent : Agent) (rules : Rules) (a : Account) (own : IsOwnPlane plane agent) (s : HasPages agent rules a) (page : ℕ) (at : page ≡ standing agent) where
-  pub keeping_at : IsKeeping plane.shape agent.keeper a.entries page (length a.closings)
-  keeping_at = subst (λ (n : ℕ). IsKeeping plane.shape agent.keeper a.entries n (length a.closings)) (sym at) (own_keeping plane agent rules a own s)
-
-  -- none was collected
-  pub kept_at : (keeper : Held) → ((entries : List Entry) (last : ℕ) → IsKeeping plane.shape agent.keeper entries page last → IsKeeping plane.shape keeper entries page last)
-      → IsKeeping (shape_of rules a.router) agent.keeper a.entries (standing agent) (length a.closings) → IsKeeping (shape_of rules a.router) keeper a.entries (standing agent) (length a.closings)
-  kept_at keeper kept k = kept_by plane agent rules a own s keeper (standing agent) (length a.closings) (subst (λ (n : ℕ). IsKeeping plane.shape keeper a.entries n (length a.closings)) at (kept a.entries (length a.closings) keeping_at))
-
-  -- it was
-  pub taken_at : (keeper : Held) → ((entries : List Entry) (last : ℕ) → IsKeeping plane.shape agent.keeper entries page last → IsKeeping plane.shape keeper entries (page + 1) last)
-      → IsKeeping (shape_of rules a.router) keeper a.entries (standing agent + 1) (length a.closings)
-  taken_at keeper taken = kept_by plane agent rules a own s keeper (standing agent + 1) (length a.closings) (subst (λ (n : ℕ). IsKeeping plane.shape keeper a.entries (n + 1) (length a.closings)) at (taken a.entries (length a.closings) keeping_at))
-
-  pub resident_at : (r : Resident) → r.family.value ≡ family_of (shape_of agent.rules agent.router.number) page
-      → ((entries : List Entry) (last : ℕ) → IsKeeping plane.shape agent.keeper entries page last → r.page ≡ marked_set plane.shape entries page) → IsResident rules a (standing agent) r
-  resident_at r family bits = subst (λ (n : ℕ). IsResident rules a n r) at (resident_of plane agent rules a page r own s family (bits a.entries (length a.closings) keeping_at))
 
 -- ---- a copy of the open page
 

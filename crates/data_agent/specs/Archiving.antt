@@ -24,16 +24,17 @@ use Rattle.data_agent.specs.declared.closed_page.Whereabouts.TheVariants.{InMemo
 use Rattle.data_agent.specs.declared.resident.Resident.{Resident}
 use Rattle.data_agent.specs.Beside.{Away, KeepsReads, StandsBeside}
 use Rattle.data_agent.specs.Planes.{IsRestSame}
-use Rattle.data_agent.specs.Standing.{AreTimes, Stands, digest_of, noted_page, is_deferred, is_refused, is_stored, standing}
+use Rattle.data_agent.specs.Standing.{AreTimes, Stands, StandsAmid, digest_of, noted_page, is_deferred, is_refused, is_stored, standing}
 
 -- the agent has a closed page of this number that has not expired
 abbrev pub HasClosed : Agent → (page : ℕ) → Type 0
 HasClosed agent page =
     (rules : Rules) × (l : Ledger) × Stands agent rules l × (agent.catalogue.gone ≤ page) × (page < agent.page.number)
 
--- what stays of an agent while its keeper settles and collects pages, and passes are out
-pub record StaysBeside (old new : Agent) : Type 0 where
+-- what stays of an agent while its keeper settles and collects pages, with passes out or not
+pub record KeepsStanding (old new : Agent) : Type 0 where
   pub rest : IsRestSame old new
+  pub amid : (rules : Rules) (l : Ledger) → StandsAmid old rules l → StandsAmid new rules l
   pub beside : (rules : Rules) (l : Ledger) (u : Unfinished) (away : Away) → StandsBeside old rules l u away
       → StandsBeside new rules l u away
   pub reads : KeepsReads old new

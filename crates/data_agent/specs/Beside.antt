@@ -56,6 +56,12 @@ pub record IsMinding (shape : PageShape) (keeper : Held) (first last : ℕ) : Ty
   pub stand : (page : ℕ) → first ≤ page → page < last → IsWaiting keeper.view.duties page
   pub only : (page : ℕ) → IsWaiting keeper.view.duties page → (first ≤ page) × (page < last)
 
+-- the keeper minds the agent's pages: closed ones that were not collected stand in slots. No more is said of whose they are
+pub record MindsPages (agent : Agent) : Type 0 where
+  pub ranges : AreInRange agent.rules.k agent.rules.n
+  pub minding : IsMinding (shape_of agent.rules agent.router.number) agent.keeper (standing agent) agent.page.number
+  pub few : agent.page.number < 2 ^ 32 - 1
+
 -- the keeper knows what it knew: it has the same entries and reads, as many passes are out, and collected pages have their words
 pub record KeepsWords (shape : PageShape) (old new : Held) : Type 0 where
   pub table : new.table ≡ old.table

@@ -7,15 +7,13 @@ ghost use Rattle.std.specs.List.{Contains};
 ghost use Rattle.spie_base.specs.Causes.{RoseBy};
 ghost use Rattle.spie_base.specs.declared.Rules.{Rules as TheRules};
 ghost use Rattle.bloom_page.specs.Sets.{is_in};
-ghost use Rattle.gate_core.specs.Acts.{IsQuiet};
-ghost use Rattle.page_gate.specs.Pages.{phase_with};
 ghost use Rattle.router_account.specs.Account.{Account};
 ghost use Rattle.router_account.specs.Ledger.{Ledger, Unfinished};
 ghost use Rattle.router_account.specs.Records.{head_of};
 ghost use Rattle.shelved_page.specs.Shelving.{view_of};
 ghost use Rattle.data_agent.specs.declared.archival.Note.{Note as TheNote};
-ghost use Rattle.data_agent.specs.Archiving.{HasClosed, IsHeld, KnowsPages, KnowsTimes, NotesOne, NotesTo, StaysBeside, place_at};
-ghost use Rattle.data_agent.specs.Beside.{Away, KeepsReads, StandsBeside, meaning_beside};
+ghost use Rattle.data_agent.specs.Archiving.{HasClosed, IsHeld, KnowsPages, KnowsTimes, NotesOne, NotesTo, place_at};
+ghost use Rattle.data_agent.specs.Beside.{Away, KeepsReads, StandsBeside, meaning_beside, out_of};
 ghost use Rattle.data_agent.specs.Calls.{MayNote, IsNoted, IsNotedBeside};
 ghost use Rattle.data_agent.specs.Planes.{AreTaken, CountedSomebody, DefersPage, IsOwnPlane, IsPlaneSame, entries_of};
 ghost use Rattle.data_agent.specs.Probing.{StandsInSlot};
@@ -23,11 +21,10 @@ ghost use Rattle.data_agent.specs.Finishing.{PutsAllDeferred, PutsDeferred};
 ghost use Rattle.data_agent.specs.Standing.{IsBitsDigest, Stands, StandsFor, StandsWhole, digest_of, standing, was_deferred};
 
 use crate::closed_page::Whereabouts;
-use crate::slots_beside::settle_beside;
 use crate::{Agent, Resident};
 use archive_record::BitsHead;
 use hash_family::page_seed;
-use page_gate::{Plane, Settled};
+use page_gate::Plane;
 use page_shelf::Shelf;
 use shelved_page::put_bits;
 use spie_base::{NoMemory, PageNo};
@@ -239,8 +236,12 @@ impl Agent {
         Ok(())
     }
 
-    /// Notes which pages an archival covers: those that are closed, have not expired and are not on the shelf. Collects those
-    /// that stand in slots, and puts the bits records of all, in order. A segment has one archival. Copies no page beside the bytes of one record.
+    /// Notes which pages an archival covers: those that are closed, have not expired and are not on the shelf. Settles each
+    /// closed page that stands in a slot once, oldest first, and collects it, up to the first one in which somebody is inside, and
+    /// puts the bits records of the pages in memory, in order. With no pass out nobody is inside one, and all are put. Else pages
+    /// from that one on stay in their slots, and the barrier puts their bits records; what is put meanwhile are the bits that were
+    /// collected, which `gather` shows to be the page's. A segment has one archival. Waits for nobody. Copies no page beside the
+    /// bytes of one record.
     pub fn archive<H: Shelf>(
         &mut self,
         alloc: Global,
@@ -248,7 +249,7 @@ impl Agent {
         shelf: &mut H,
     ) -> Result<(), NoMemory>
         requires own { IsOwnPlane plane.now self.old }
-        requires noted { MayNote (StandsFor self.old) }
+        requires noted { MayNote (StandsFor self.old) ⊎ ((away : Away) × MayNote (meaning_beside self.old away)) }
         ensures own { IsOwnPlane plane.now self.new }
         ensures entries { entries_of self.new ≡ entries_of self.old }
         ensures later { H.faults shelf.old ≤ H.faults shelf.new }
@@ -256,74 +257,15 @@ impl Agent {
         ensures noted { OnOk result ((more : Unfinished)
             × IsNoted (StandsFor self.old) (StandsFor self.new) more (H.tells shelf.old) (H.contents shelf.old)
             (H.contents shelf.new)
-            × RoseBy more.refused (H.faults shelf.old) (H.faults shelf.new)) }
-        ensures tried { OnOk result ((page : ℕ) → DefersPage self.new page → ⊥) }
-        ensures same { OnErr result ((rules : TheRules) (l : Ledger) (u : Unfinished) → StandsFor self.old rules l u
-            → StandsFor self.new rules l u) }
-    {
-        self.take_all(alloc, plane)?;
-        self.note_closed(alloc, shelf)
-    }
-
-    // Looks once whether nobody is inside the page that stands in a slot longest.
-    fn is_oldest_quiet(&mut self, plane: &Plane) -> bool
-        requires own { IsOwnPlane plane.now self.old }
-        requires stands { (rules : TheRules) × (l : Ledger) × (u : Unfinished) × (away : Away)
-            × StandsBeside self.old rules l u away × (standing self.old < self.old.page.number) }
-        ensures own { IsOwnPlane plane.now self.new }
-        ensures stays { StaysBeside self.old self.new }
-        ensures standing { standing self.new ≡ standing self.old }
-        ensures quiet { result ≡ true → IsQuiet (phase_with self.new.keeper.view.duties (standing self.new)) }
-        ensures inside { result ≡ false → CountedSomebody self.new }
-    {
-        let page = PageNo {
-            number: self.standing_beside(),
-        };
-        settle_beside(plane, &mut self.keeper, page) == Settled::Quiet
-    }
-
-    // Collects the closed pages that stand in slots, the oldest first, up to one in which somebody is inside.
-    fn collect_quiet(&mut self, alloc: Global, plane: &Plane) -> Result<(), NoMemory>
-        requires own { IsOwnPlane plane.now self.old }
-        requires stands { (rules : TheRules) × (l : Ledger) × (u : Unfinished) × (away : Away)
-            × StandsBeside self.old rules l u away }
-        ensures own { IsOwnPlane plane.now self.new }
-        ensures stays { StaysBeside self.old self.new }
-        ensures ends { OnOk result (AreTaken self.new ⊎ CountedSomebody self.new) }
-    {
-        let from = self.standing_beside();
-        'pages: for _ in from..self.page.number {
-            if !self.is_oldest_quiet(plane) {
-                return Ok(());
-            }
-            self.collect_oldest(alloc, plane)?;
-        }
-        Ok(())
-    }
-
-    /// What `archive` does, while passes are out. Settles each closed page that stands in a slot once, oldest first, and collects
-    /// it, up to the first one in which somebody is inside: from that one on pages stay in their slots, and the barrier puts
-    /// their bits records. What is put of a page are the bits that were collected, which `gather` shows to be the page's. Waits for
-    /// nobody. Copies no page beside the bytes of one record.
-    pub fn archive_beside<H: Shelf>(
-        &mut self,
-        alloc: Global,
-        plane: &Plane,
-        shelf: &mut H,
-    ) -> Result<(), NoMemory>
-        requires own { IsOwnPlane plane.now self.old }
-        requires noted { (away : Away) × MayNote (meaning_beside self.old away) }
-        ensures own { IsOwnPlane plane.now self.new }
-        ensures entries { entries_of self.new ≡ entries_of self.old }
-        ensures later { H.faults shelf.old ≤ H.faults shelf.new }
-        ensures still { H.tells shelf.new ≡ H.tells shelf.old }
-        ensures noted { OnOk result ((more : Unfinished)
             × ((away : Away) → IsNotedBeside (meaning_beside self.old away) (meaning_beside self.new away) more
             (H.tells shelf.old) (H.contents shelf.old) (H.contents shelf.new))
             × RoseBy more.refused (H.faults shelf.old) (H.faults shelf.new)) }
+        ensures tried { OnOk result ((out_of self.old ≡ 0) → (page : ℕ) → DefersPage self.new page → ⊥) }
         ensures deferred { OnOk result ((page : ℕ) → DefersPage self.new page → StandsInSlot self.new page) }
         ensures inside { OnOk result (AreTaken self.new ⊎ CountedSomebody self.new) }
-        ensures same { OnErr result ((rules : TheRules) (l : Ledger) (u : Unfinished) (away : Away)
+        ensures same { OnErr result ((rules : TheRules) (l : Ledger) (u : Unfinished) → StandsFor self.old rules l u
+            → StandsFor self.new rules l u) }
+        ensures beside_same { OnErr result ((rules : TheRules) (l : Ledger) (u : Unfinished) (away : Away)
             → StandsBeside self.old rules l u away
             → StandsBeside self.new rules l u away) }
         ensures reads { KeepsReads self.old self.new }

@@ -137,7 +137,7 @@ impl Agent {
             → StandsWhole self.old rules l u → StandsForSame self.new rules l clock) }
     {
         self.rotate_alone(alloc, plane, clock)?;
-        self.take_all(alloc, plane)
+        self.collect_quiet(alloc, plane)
     }
 
     // Closes the open page where a tick of this time does.
@@ -290,7 +290,7 @@ impl Agent {
         ensures recorded { OnErr result ((rules : TheRules) (l : Ledger) (u : Unfinished) → StandsFor self.old rules l u
             → StandsForSame self.new rules l clock) }
     {
-        self.take_all(alloc, plane)?;
+        self.collect_quiet(alloc, plane)?;
         self.pass(alloc, plane, shelf, clock, tick)
     }
 }

@@ -27,8 +27,8 @@
 //! # Passes
 //!
 //! `deal` hands out passes, through which threads record in the plane, and `gather` takes them in again. Meanwhile the agent
-//! stands beside them (`StandsBeside`): for a ledger that has the gathered entries alone. `rotate` may be called then; it
-//! waits where somebody is inside the page whose slot it needs. What passes record shows in the words that the keeper collects
+//! stands beside them (`StandsBeside`): for a ledger that has the gathered entries alone. `rotate` may be called then, which
+//! waits where somebody is inside the page whose slot it needs, and `archive`, which waits for nobody. What passes record shows in the words that the keeper collects
 //! and reads, and `gather` tells that these were the marks of entries: a page that was collected beside passes has the bits of
 //! the ledger behind `gather`, and so has each bits record that was put meanwhile.
 //!
@@ -48,15 +48,15 @@
 //! about 2,400 bytes; for each page that was collected, has not expired and is not on the shelf 2^(n-6) words and 560 bytes of hash
 //! functions; as much for the copy, from a `prepare` to the next barrier; for each page on the shelf 64 bytes; and the rows.
 //!
-//! Read `specs/Calls.antt`, `specs/Planes.antt`, `specs/Standing.antt`, `agent`, `rotating`, `slots`, `watch`, `archival`, `finishing`,
-//! `barrier`, `looking` and then `sight`; and of passes `specs/Beside.antt`, `specs/BesideWatches.antt`, `passes`,
-//! `rotating_beside` and `slots_beside`.
+//! Read `specs/Calls.antt`, `specs/Planes.antt`, `specs/Standing.antt`, `specs/Beside.antt`, `agent`, `slots`, `collecting`, `rotating`,
+//! `passes`, `watch`, `archival`, `finishing`, `barrier`, `looking` and then `sight`.
 #![tactic(auto)]
 
 mod agent;
 mod archival;
 mod barrier;
 mod closed_page;
+mod collecting;
 mod finishing;
 mod laws;
 mod looking;
@@ -64,10 +64,8 @@ mod outcome;
 mod passes;
 mod resident;
 mod rotating;
-mod rotating_beside;
 mod sight;
 mod slots;
-mod slots_beside;
 mod watch;
 
 pub use agent::Agent;

@@ -13,7 +13,7 @@ ghost use Rattle.data_agent.specs.Planes.{IsOwnPlane, entries_of};
 ghost use Rattle.data_agent.specs.Standing.{StandsFor};
 
 use crate::Agent;
-use crate::slots_beside::{deal_passes, gather_passes};
+use crate::slots::{deal_passes, gather_passes};
 use page_gate::{Pass, Plane};
 use spie_base::{NoMemory, PageNo};
 use std::alloc::Global;

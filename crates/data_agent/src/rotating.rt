@@ -1,4 +1,4 @@
-// Pages are opened, and closed ones leave their slots.
+// Pages are opened, and the open one is copied for a query.
 //
 // A plane has four slots: one for the open page, and three for closed ones, which are collected at the latest when their
 // slot is needed, the oldest first. All memory is taken before a page leaves its slot.
@@ -6,92 +6,58 @@ ghost use Rattle.std.specs.Prelude.{◌≡◌, ◌<◌, ◌≤◌, ◌+◌, ◌-
 ghost use Rattle.spie_base.specs.declared.Rules.{Rules as TheRules};
 ghost use Rattle.page_catalogue.specs.Pages.{open_page};
 ghost use Rattle.page_gate.specs.Slots.{free_count};
-ghost use Rattle.router_account.specs.Account.{Account};
 ghost use Rattle.router_account.specs.Ledger.{Ledger, Unfinished, turned_at};
-ghost use Rattle.data_agent.specs.Calls.{MayTurn};
-ghost use Rattle.data_agent.specs.Planes.{AreTaken, IsOwnPlane, IsPrepared, IsRestSame, entries_of};
-ghost use Rattle.data_agent.specs.Standing.{HasPages, StandsAmid, StandsFor, StandsWhole, standing};
+ghost use Rattle.data_agent.specs.Archiving.{KeepsStanding};
+ghost use Rattle.data_agent.specs.Beside.{Away, KeepsReads, MindsPages, StandsBeside, out_of};
+ghost use Rattle.data_agent.specs.Calls.{HasRoom, IsLate, MayTurn};
+ghost use Rattle.data_agent.specs.Planes.{IsOwnPlane, IsPrepared, entries_of};
+ghost use Rattle.data_agent.specs.Standing.{StandsFor};
 
-use crate::closed_page::{ClosedPage, Whereabouts};
 use crate::resident::hashes;
-use crate::slots::{copy_page, take_page, turn_page};
+use crate::slots::{copy_page, turn_page, turn_page_alone};
 use crate::{Agent, Resident};
 use page_gate::Plane;
 use spie_base::{NoMemory, PageNo};
 use std::alloc::Global;
+use std::sync::Wait;
 
 impl Agent {
-    // The first page that has not expired.
-    pub(crate) fn first(&self) -> u32
-        ensures { result ≡ self.now.catalogue.gone }
-    {
-        self.catalogue.expired_count()
-    }
-
-    // The first page that stands in a slot: those before it have expired or were collected.
-    pub(crate) fn standing(&self) -> u32
-        requires { (rules : TheRules) × (a : Account) × HasPages self.now rules a }
-        ensures { result ≡ standing self.now }
-    {
-        self.first() + self.closed.len() as u32
-    }
-
-    // Collects the page that stands in a slot longest.
-    fn take_oldest(&mut self, alloc: Global, plane: &Plane) -> Result<(), NoMemory>
-        requires own { IsOwnPlane plane.now self.old }
-        requires stands { (rules : TheRules) × (l : Ledger) × StandsAmid self.old rules l
-            × (standing self.old < self.old.page.number) }
-        ensures own { IsOwnPlane plane.now self.new }
-        ensures rest { IsRestSame self.old self.new }
-        ensures amid { (rules : TheRules) (l : Ledger) → StandsAmid self.old rules l → StandsAmid self.new rules l }
-        ensures one { OnOk result (standing self.new ≡ standing self.old + 1) }
-        ensures free { OnOk result (1 ≤ free_count self.new.keeper.view.duties) }
-    {
-        let page = PageNo {
-            number: self.standing(),
-        };
-        let family = hashes(alloc, &self.rules, self.router, page)?;
-        self.closed.reserve(1)?;
-        let bits = take_page(alloc, plane, &mut self.keeper, page)?;
-        self.closed.push_back_reserved(ClosedPage {
-            place: Whereabouts::InMemory(Resident { family, page: bits }),
-            covered: false,
-        });
-        Ok(())
-    }
-
-    // Collects every closed page that stands in a slot.
-    pub(crate) fn take_all(&mut self, alloc: Global, plane: &Plane) -> Result<(), NoMemory>
-        requires own { IsOwnPlane plane.now self.old }
-        requires stands { (rules : TheRules) × (l : Ledger) × StandsAmid self.old rules l }
-        ensures own { IsOwnPlane plane.now self.new }
-        ensures rest { IsRestSame self.old self.new }
-        ensures whole { OnOk result ((rules : TheRules) (l : Ledger) (u : Unfinished) → StandsFor self.old rules l u
-            → StandsWhole self.new rules l u) }
-        ensures taken { OnOk result (AreTaken self.new) }
-        ensures same { (rules : TheRules) (l : Ledger) (u : Unfinished) → StandsFor self.old rules l u
-            → StandsFor self.new rules l u }
-    {
-        let from = self.standing();
-        'pages: for _ in from..self.page.number {
-            self.take_oldest(alloc, plane)?;
-        }
-        Ok(())
-    }
-
-    // Makes sure that a slot is free.
+    // Makes sure that a slot is free, where no pass is out.
     fn make_room(&mut self, alloc: Global, plane: &Plane) -> Result<(), NoMemory>
         requires own { IsOwnPlane plane.now self.old }
-        requires stands { (rules : TheRules) × (l : Ledger) × StandsAmid self.old rules l }
+        requires minds { MindsPages self.old }
+        requires alone { out_of self.old ≡ 0 }
         ensures own { IsOwnPlane plane.now self.new }
-        ensures rest { IsRestSame self.old self.new }
-        ensures amid { (rules : TheRules) (l : Ledger) → StandsAmid self.old rules l → StandsAmid self.new rules l }
+        ensures minds { MindsPages self.new }
+        ensures keeps { KeepsStanding self.old self.new }
         ensures free { OnOk result (1 ≤ free_count self.new.keeper.view.duties) }
     {
         if self.keeper.free() > 0 {
             return Ok(());
         }
-        self.take_oldest(alloc, plane)
+        self.is_oldest_quiet(plane);
+        self.collect_oldest(alloc, plane)
+    }
+
+    // Makes sure that a slot is free. Waits until nobody is inside the page that stands in one longest.
+    fn wait_for_room<R: Wait>(
+        &mut self,
+        rt: &R,
+        alloc: Global,
+        plane: &Plane,
+    ) -> Result<(), NoMemory>
+        requires own { IsOwnPlane plane.now self.old }
+        requires minds { MindsPages self.old }
+        ensures own { IsOwnPlane plane.now self.new }
+        ensures minds { MindsPages self.new }
+        ensures keeps { KeepsStanding self.old self.new }
+        ensures free { OnOk result (1 ≤ free_count self.new.keeper.view.duties) }
+    {
+        if self.keeper.free() > 0 {
+            return Ok(());
+        }
+        self.wait_for_oldest(rt, plane);
+        self.collect_oldest(alloc, plane)
     }
 
     /// Closes the open page at this clock, and opens the next, whose number is the answer. Where no slot of the plane is
@@ -116,7 +82,43 @@ impl Agent {
     {
         self.make_room(alloc, plane)?;
         self.catalogue.reserve(alloc, 1)?;
-        turn_page(plane, &mut self.keeper);
+        turn_page_alone(plane, &mut self.keeper);
+        self.marked = 0;
+        self.copied = None;
+        self.page = self.catalogue.turn(clock);
+        Ok(self.page)
+    }
+
+    /// What `rotate_alone` does, also while passes are out: closes the open page at this clock, and opens the next, whose
+    /// number is the answer. Records that are inside the closed page finish there. Where no slot of the plane is free, waits
+    /// until nobody is inside the page that stands in one longest, and collects it, at 2^(n-6) swaps; a record leaves its page
+    /// without waiting. May also wait for slow records, as `Plane::rotate` does. Takes memory as `rotate_alone` does.
+    pub fn rotate<R: Wait>(
+        &mut self,
+        rt: &R,
+        alloc: Global,
+        plane: &Plane,
+        clock: u64,
+    ) -> Result<PageNo, NoMemory>
+        requires own { IsOwnPlane plane.now self.old }
+        requires ready { (rules : TheRules) × (l : Ledger) × (u : Unfinished) × (away : Away)
+            × StandsBeside self.old rules l u away × IsLate l clock × HasRoom l }
+        ensures own { IsOwnPlane plane.now self.new }
+        ensures entries { entries_of self.new ≡ entries_of self.old }
+        ensures page { IfOk result (λ page. (rules : TheRules) (l : Ledger) (u : Unfinished) (away : Away)
+            → StandsBeside self.old rules l u away
+            → page.number ≡ open_page l.account.closings + 1) }
+        ensures turned { OnOk result ((rules : TheRules) (l : Ledger) (u : Unfinished) (away : Away)
+            → StandsBeside self.old rules l u away
+            → StandsBeside self.new rules (turned_at l clock) u away) }
+        ensures same { OnErr result ((rules : TheRules) (l : Ledger) (u : Unfinished) (away : Away)
+            → StandsBeside self.old rules l u away
+            → StandsBeside self.new rules l u away) }
+        ensures reads { KeepsReads self.old self.new }
+    {
+        self.wait_for_room(rt, alloc, plane)?;
+        self.catalogue.reserve(alloc, 1)?;
+        turn_page(rt, plane, &mut self.keeper);
         self.marked = 0;
         self.copied = None;
         self.page = self.catalogue.turn(clock);
@@ -135,7 +137,7 @@ impl Agent {
             → StandsFor self.new rules l u }
         ensures prepared { OnOk result (IsPrepared self.new) }
     {
-        self.take_all(alloc, plane)?;
+        self.collect_quiet(alloc, plane)?;
         if self.copied.is_some() {
             return Ok(());
         }

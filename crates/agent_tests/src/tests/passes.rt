@@ -108,7 +108,7 @@ fn note_archival(
     ensures own { IsOwnPlane plane.now agent.new }
     ensures archived { OnOk result (IsArchived agent.new) }
 {
-    agent.archive_beside(alloc, plane, shelf)
+    agent.archive(alloc, plane, shelf)
 }
 
 fn watched(plane: &Plane, agent: &mut Agent, sig: &Sig) -> Watch

@@ -1,17 +1,21 @@
 use Rattle.std.proofs.Common.{arith, ◌∙◌}
-use Rattle.data_agent.proofs.Keeping.{kept_turned, next_is}
+use Rattle.data_agent.proofs.Minding.{next_minded}
+use Rattle.data_agent.proofs.TurnedPages.{minded_turned, words_turned}
 use Rattle.data_agent.proofs.slots.turn_page.Goals as goal
 
-pub rotate_alone-requires-clause-open : goal.rotate_alone-requires-clause-open
-rotate_alone-requires-clause-open c = let (entries, first, last, s, fits) = c.requires.stands in s.has_open
+pub rotate-requires-clause-open : goal.rotate-requires-clause-open
+rotate-requires-clause-open g c = let (first, last, s, fits) = c.requires.stands in s.has_open
 
-pub rotate_alone-requires-clause-fits : goal.rotate_alone-requires-clause-fits
-rotate_alone-requires-clause-fits c =
-    let (entries, first, last, s, fits) = c.requires.stands in
-    let next = next_is c.args.plane.now.shape c.args.keeper.now entries first last s in
+pub rotate-requires-clause-fits : goal.rotate-requires-clause-fits
+rotate-requires-clause-fits g c =
+    let (first, last, s, fits) = c.requires.stands in
+    let next = next_minded c.args.plane.now.shape c.args.keeper.now first last s in
     omega arith
 
+pub returns-clause-same : goal.returns-clause-same
+returns-clause-same g c = words_turned c.args.plane.now.shape c.args.keeper.now c.rotate.new.keeper c.rotate.ensures.rotated
+
 pub returns-clause-turned : goal.returns-clause-turned
-returns-clause-turned c = λ entries first last s.
-    kept_turned c.args.plane.now.shape c.args.keeper.now c.rotate_alone.new.keeper entries first last s c.requires.free c.rotate_alone.ensures.rotated c.rotate_alone.ensures.met c.rotate_alone.ensures.open
-    (c.rotate_alone.ensures.current ∙ c.rotate_alone.ensures.page)
+returns-clause-turned g c = λ first last s.
+    minded_turned c.args.plane.now.shape c.args.keeper.now c.rotate.new.keeper first last s c.requires.free c.rotate.ensures.rotated c.rotate.ensures.met c.rotate.ensures.open
+    (c.rotate.ensures.current ∙ c.rotate.ensures.page)

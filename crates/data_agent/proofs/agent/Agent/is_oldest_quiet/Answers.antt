@@ -1,25 +1,21 @@
-use Rattle.std.proofs.Common.{refl, length, subst}
-use Rattle.spie_base.specs.declared.PageShape.{PageShape}
-use Rattle.data_agent.specs.Beside.{KeepsWords}
+use Rattle.std.proofs.Common.{refl, arith}
 use Rattle.data_agent.specs.Standing.{standing}
-use Rattle.data_agent.proofs.Besides.{beside_kept, minding_by, own_minding, reads_kept, words_by}
+use Rattle.data_agent.proofs.Leaving.{keeps_settled, minds_own, minds_then}
 use Rattle.data_agent.proofs.agent.Agent.is_oldest_quiet.Goals as goal
 
-pub returns-clause-stays : goal.returns-clause-stays
-returns-clause-stays c = record {
-  rest = record { catalogue = refl; page = refl; noted = refl; entries = c.settle_beside.ensures.same.entries };
-  beside = λ rules l u away s.
-      let plane = c.args.plane.now in
-      let old = c.args.self.now in
-      let keeper = c.settle_beside.new.keeper in
-      let first = standing old in
-      let last = length l.account.closings in
-      beside_kept old _ rules l u away
-      (record { rules = refl; router = refl; page = refl; by_rules = refl; closings = refl; gone = refl; clock = refl; table = refl; noted = refl })
-      refl s
-      (words_by plane old rules l u away c.requires.own s keeper c.settle_beside.ensures.same)
-      refl
-      (minding_by plane old rules l u away c.requires.own s keeper first last (c.settle_beside.ensures.minding first last (own_minding plane old rules l u away c.requires.own s)));
-  reads = reads_kept c.args.self.now (record c.args.self.now { keeper = c.settle_beside.new.keeper }) refl refl
-      (subst (λ (shape : PageShape). KeepsWords shape c.args.self.now.keeper c.settle_beside.new.keeper) c.requires.own.shape c.settle_beside.ensures.same);
-}
+pub settle_page-requires-clause-stands : goal.settle_page-requires-clause-stands
+settle_page-requires-clause-stands c =
+    let some = c.requires.some in
+    let here = c.standing.ensures in
+    (standing c.args.self.now, c.args.self.now.page.number, minds_own c.args.plane.now c.args.self.now c.requires.own c.requires.minds, (omega arith), (omega arith))
+
+pub returns-clause-minds : goal.returns-clause-minds
+returns-clause-minds c =
+    let old = c.args.self.now in
+    minds_then c.args.plane.now old _ (standing old) c.requires.own c.requires.minds refl refl refl refl
+    (c.settle_page.ensures.minding (standing old) old.page.number (minds_own c.args.plane.now old c.requires.own c.requires.minds))
+
+pub returns-clause-keeps : goal.returns-clause-keeps
+returns-clause-keeps c =
+    keeps_settled c.args.plane.now c.args.self.now _ c.requires.own (record { rules = refl; router = refl; page = refl; catalogue = refl; table = refl; noted = refl; marked = refl })
+    c.settle_page.ensures.same refl c.settle_page.ensures.minding

@@ -6,19 +6,23 @@ use Rattle.data_agent.specs.declared.agent.Agent.{Agent}
 use Rattle.data_agent.specs.Beside.{Away, StandsBeside}
 use Rattle.page_catalogue.specs.Catalogues.{Catalogued}
 use Rattle.data_agent.specs.Standing.{standing}
+use Rattle.data_agent.proofs.Leaving.{minds_beside}
 use Rattle.data_agent.proofs.Besides.{beside_kept, minding_by, own_minding, words_by}
 use Rattle.data_agent.proofs.Minding.{knows_same}
 use Rattle.data_agent.proofs.Results.{on_err}
 use Rattle.data_agent.proofs.Turning.{ready_then, room_beside, times_beside, turned_beside}
 use Rattle.data_agent.proofs.agent.Agent.rotate.Goals as goal
 
+pub wait_for_room-requires-clause-minds : goal.wait_for_room-requires-clause-minds
+wait_for_room-requires-clause-minds g c = let (rules, l, u, away, s, late, room) = c.requires.ready in minds_beside c.args.self.now rules l u away s
+
 pub returns-in_err-reserve-clause-same : goal.returns-in_err-reserve-clause-same
 returns-in_err-reserve-clause-same g c =
-    let old = c.make_room_beside.new.self in
+    let old = c.wait_for_room.new.self in
     let new : Agent = record old { catalogue = c.reserve.new.self } in
     let is = c.reserve.ensures.same in
     let same : (rules : Rules) (l : Ledger) (u : Unfinished) (away : Away) → StandsBeside c.args.self.now rules l u away → StandsBeside new rules l u away = λ rules l u away s0.
-    let s = c.make_room_beside.ensures.beside rules l u away s0 in
+    let s = c.wait_for_room.ensures.keeps.beside rules l u away s0 in
     beside_kept old new rules l u away
     (record {
       rules = refl;
@@ -34,19 +38,19 @@ returns-in_err-reserve-clause-same g c =
     refl s (knows_same (shape_of rules l.account.router) old.keeper) refl s.pages.minding in
     on_err _ same
 
-pub turn_beside-requires-clause-stands : goal.turn_beside-requires-clause-stands
-turn_beside-requires-clause-stands g c =
+pub turn_page-requires-clause-stands : goal.turn_page-requires-clause-stands
+turn_page-requires-clause-stands g c =
     let (rules, l, u, away, s, late, room) = c.requires.ready in
-    let old = c.make_room_beside.new.self in
-    let t = c.make_room_beside.ensures.beside rules l u away s in
-    (standing old, length l.account.closings, own_minding c.args.plane.now old rules l u away c.make_room_beside.ensures.own t, (omega arith))
+    let old = c.wait_for_room.new.self in
+    let t = c.wait_for_room.ensures.keeps.beside rules l u away s in
+    (standing old, length l.account.closings, own_minding c.args.plane.now old rules l u away c.wait_for_room.ensures.own t, (omega arith))
 
 pub returns-clause-turned : goal.returns-clause-turned
 returns-clause-turned g c = λ rules l u away s.
     let plane = c.args.plane.now in
-    let old = c.make_room_beside.new.self in
-    let own = c.make_room_beside.ensures.own in
-    let kept = c.make_room_beside.ensures.beside in
+    let old = c.wait_for_room.new.self in
+    let own = c.wait_for_room.ensures.own in
+    let kept = c.wait_for_room.ensures.keeps.beside in
     let ready = ready_then c.args.self.now old c.args.clock kept c.requires.ready in
     let t = kept rules l u away s in
     let same = c.reserve.ensures.same in
@@ -67,5 +71,5 @@ returns-clause-turned g c = λ rules l u away s.
       table = refl;
       noted = refl;
     })
-    (words_by plane old rules l u away own t c.turn_beside.new.keeper c.turn_beside.ensures.same)
-    (minding_by plane old rules l u away own t c.turn_beside.new.keeper first (last + 1) (c.turn_beside.ensures.turned first last (own_minding plane old rules l u away own t)))
+    (words_by plane old rules l u away own t c.turn_page.new.keeper c.turn_page.ensures.same)
+    (minding_by plane old rules l u away own t c.turn_page.new.keeper first (last + 1) (c.turn_page.ensures.turned first last (own_minding plane old rules l u away own t)))

@@ -1,18 +1,21 @@
-use Rattle.std.proofs.Common.{refl, length}
+use Rattle.std.proofs.Common.{refl, arith}
 use Rattle.data_agent.specs.Standing.{standing}
-use Rattle.data_agent.proofs.Besides.{beside_kept, minding_by, own_minding, words_by}
+use Rattle.data_agent.proofs.Leaving.{keeps_settled, minds_own, minds_then}
 use Rattle.data_agent.proofs.agent.Agent.wait_for_oldest.Goals as goal
 
-pub returns-clause-beside : goal.returns-clause-beside
-returns-clause-beside g c = λ rules l u away s.
-    let plane = c.args.plane.now in
+pub settle_until_quiet-requires-clause-stands : goal.settle_until_quiet-requires-clause-stands
+settle_until_quiet-requires-clause-stands g c =
+    let some = c.requires.some in
+    let here = c.standing.ensures in
+    (standing c.args.self.now, c.args.self.now.page.number, minds_own c.args.plane.now c.args.self.now c.requires.own c.requires.minds, (omega arith), (omega arith))
+
+pub returns-clause-minds : goal.returns-clause-minds
+returns-clause-minds g c =
     let old = c.args.self.now in
-    let keeper = c.settle_until_quiet.new.keeper in
-    let first = standing old in
-    let last = length l.account.closings in
-    beside_kept old _ rules l u away
-    (record { rules = refl; router = refl; page = refl; by_rules = refl; closings = refl; gone = refl; clock = refl; table = refl; noted = refl })
-    refl s
-    (words_by plane old rules l u away c.requires.own s keeper c.settle_until_quiet.ensures.same)
-    refl
-    (minding_by plane old rules l u away c.requires.own s keeper first last (c.settle_until_quiet.ensures.minding first last (own_minding plane old rules l u away c.requires.own s)))
+    minds_then c.args.plane.now old _ (standing old) c.requires.own c.requires.minds refl refl refl refl
+    (c.settle_until_quiet.ensures.minding (standing old) old.page.number (minds_own c.args.plane.now old c.requires.own c.requires.minds))
+
+pub returns-clause-keeps : goal.returns-clause-keeps
+returns-clause-keeps g c =
+    keeps_settled c.args.plane.now c.args.self.now _ c.requires.own (record { rules = refl; router = refl; page = refl; catalogue = refl; table = refl; noted = refl; marked = refl })
+    c.settle_until_quiet.ensures.same refl c.settle_until_quiet.ensures.minding

@@ -1,6 +1,6 @@
 use Rattle.std.specs.Prelude.{ℕ}
 use Rattle.data_agent.specs.Beside.{IsMinding, KeepsWords}
-use Rattle.data_agent.proofs.slots_beside.settle_until_quiet.Given as goal
+use Rattle.data_agent.proofs.slots.settle_until_quiet.Given as goal
 
 -- nothing is known more, and the keeper minds the same pages
 abbrev pub invariant-looks : goal.invariant-looks

@@ -1,7 +1,7 @@
 use Rattle.std.proofs.Common.{ℕ, ◌<◌, get_or}
 use Rattle.gate_core.specs.Invariant.{IsRising}
 use Rattle.page_gate.specs.Held.{PassHeld}
-use Rattle.data_agent.proofs.slots_beside.rise.Given as goal
+use Rattle.data_agent.proofs.slots.rise.Given as goal
 
 -- the passes so far rise
 abbrev pub invariant-loop-pass : goal.invariant-loop-pass

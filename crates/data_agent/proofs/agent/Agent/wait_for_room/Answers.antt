@@ -1,0 +1,25 @@
+use Rattle.std.proofs.Common.{arith, ap}
+use Rattle.spie_base.specs.Shapes.{shape_of}
+use Rattle.data_agent.specs.Standing.{standing}
+use Rattle.data_agent.proofs.Leaving.{keeps_same, keeps_then}
+use Rattle.data_agent.proofs.Minding.{some_waits}
+use Rattle.data_agent.proofs.agent.Agent.wait_for_room.Goals as goal
+
+pub wait_for_oldest-requires-clause-some : goal.wait_for_oldest-requires-clause-some
+wait_for_oldest-requires-clause-some g c =
+    let old = c.args.self.now in
+    some_waits (shape_of old.rules old.router.number) old.keeper (standing old) old.page.number c.requires.minds.minding (omega (arith, c.free.ensures, c.if-free-gt0.false))
+
+pub collect_oldest-requires-clause-some : goal.collect_oldest-requires-clause-some
+collect_oldest-requires-clause-some g c =
+    let old = c.args.self.now in
+    let some = some_waits (shape_of old.rules old.router.number) old.keeper (standing old) old.page.number c.requires.minds.minding (omega (arith, c.free.ensures, c.if-free-gt0.false)) in
+    let here = c.wait_for_oldest.ensures.standing in
+    let page = ap (λ n. n.number) c.wait_for_oldest.ensures.keeps.rest.page in
+    omega arith
+
+pub returns-then-free-gt0-clause-keeps : goal.returns-then-free-gt0-clause-keeps
+returns-then-free-gt0-clause-keeps g c = keeps_same c.args.self.now
+
+pub returns-clause-keeps : goal.returns-clause-keeps
+returns-clause-keeps g c = keeps_then c.args.self.now c.wait_for_oldest.new.self c.collect_oldest.new.self c.wait_for_oldest.ensures.keeps c.collect_oldest.ensures.keeps
