@@ -18,8 +18,9 @@ use Rattle.page_gate.specs.Held.{PassHeld}
 abbrev pub StaysWith : Seat Nothing View → Seat Nothing View → View → Type 0
 StaysWith before after w = (after.table_id ≡ before.table_id) × (after.id ≡ before.id) × (after.me ≡ (w, before.me.1))
 
--- at some moment the plane met the invariant, and what was read then is a visit of an actor with this floor: the gate was sealed, its
--- page was below the next page, not below the floor, and stood in no Open slot
+-- there is a state of a plane that meets the invariant, in which what was read is a visit of an actor with this floor: the gate is
+-- sealed, its page is below the next page, not below the floor, and stands in no Open slot. That the pass's own plane was once in
+-- that state is not said
 pub record SealedThen (shape : PageShape) (floor slot gate : ℕ) : Type 0 where
   pub plane : Plane
   pub rule : MeetsInvariant shape plane

@@ -4,7 +4,7 @@
 //!
 //! The central contract is the trait `Shelf`, which is seen by three ghost members: what stands under each name, whether
 //! the shelf tells it, and a count of its faults. A call answers `Failed` exactly where that count rose, so no shelf can
-//! hide a fault, and nobody above can make one up.
+//! hide a fault, and a contract above that tells a fault can tie it to that count.
 //!
 //! # Whom to trust
 //!

@@ -19,11 +19,12 @@
 //!
 //! # What a step costs
 //!
-//! `hit` is asked once of each named pair, `origins` once of each that is hit, and they are kept only if there are others
-//! than the pair's own signature. A step costs one read of a cell while the search runs, and one more with 64 bytes of the
-//! graph when it is told. Telling walks the cells router by router, and at each the signatures in the order of their map:
-//! so all lists come out in order, and nothing is sorted. Beside its graph a flood keeps a lead and a cell a pair. Most of
-//! the time of a large flood is the system's, which hands out fresh memory for the edges.
+//! `hit` is asked once of each named pair, `origins` once of each that is hit (so the code does it; no contract counts
+//! questions), and they are kept only if there are others than the pair's own signature. A step costs one read of a cell
+//! while the search runs, and one more with 64 bytes of the graph when it is told. Telling walks the cells router by
+//! router, and at each the signatures in the order of their map: so all lists come out in order, and nothing is sorted.
+//! Beside its graph a flood keeps a lead and a cell a pair. Most of the time of a large flood is the system's, which hands
+//! out fresh memory for the edges.
 //!
 //! # Chosen signatures
 //!

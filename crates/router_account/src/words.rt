@@ -10,16 +10,17 @@ pub enum Watch {
     Unknown,
 }
 
-/// Why a page on the shelf could not be read.
+/// Why a page on the shelf could not be read. What a clause says of each cause is `IsCause`: none but `Failed` comes
+/// where the shelf tells both true records of the page.
 #[derive(Clone, Copy, PartialEq, Eq, Debug)]
 pub enum Cause {
-    /// The shelf failed.
+    /// A call to the shelf failed.
     Failed,
-    /// What is there has another SHA-256 than what was put.
+    /// What was got has another SHA-256 (`found`) than the true record (`kept`).
     Other { kept: [u8; 32], found: [u8; 32] },
-    /// Nothing is there.
+    /// Nothing was got. Where the shelf tells its map, nothing is there.
     Absent,
-    /// What is there has the right SHA-256, and is no record of this page.
+    /// What was got has the right SHA-256, and is no record of this page. Then other bytes with that SHA-256 are known.
     Broken,
 }
 

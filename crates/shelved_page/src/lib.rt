@@ -1,8 +1,8 @@
 //! The two records of one closed page on a shelf: put, read back and checked, and discarded.
 //!
 //! The central contract is that of `read_back`: by the SHA-256 that were kept of the two records, it gives contents of
-//! this page whose records have these digests, or the cause why there are none, each cause exactly by what the shelf
-//! did. Where the shelf tells both true records, what was recorded is read back, or the shelf failed. Read
+//! this page whose records have these digests, or a cause why there are none (`IsCause` says what each cause means).
+//! Where the shelf tells both true records, what was recorded is read back, or the shelf failed. Read
 //! `specs/Shelving`, `shelving`, `specs/Reading` and `reading`.
 #![tactic(auto)]
 

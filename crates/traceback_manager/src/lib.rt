@@ -10,7 +10,8 @@
 //!
 //! All regions mark pairs in one search, which each is lent while it is asked. So a pair is asked once however many regions
 //! lead to it, all rounds together ask what one flood over all routers asks, and the graph is told once, at the end, as
-//! `flood` tells it. Beside that a lead of a round is looked at once for each region, to find its own.
+//! `flood` tells it. The contract says which graph is told, and not how often a pair is asked. Beside that a lead of a
+//! round is looked at once for each region, to find its own.
 //!
 //! # All regions at once
 //!
