@@ -1,5 +1,5 @@
 -- How a line is written.
-use Rattle.std.specs.Prelude.{ℕ, List, [], ◌∷◌, ◌++◌, codes, decimal}
+use Rattle.std.specs.Prelude.{ℕ, ◌≡◌, List, [], ◌∷◌, ◌++◌, codes, decimal}
 use Rattle.std.specs.List.{flat_map}
 
 -- a field behind a space
@@ -14,3 +14,8 @@ line_text line fields = decimal line ++ flat_map spaced fields ++ 10 ∷ []
 abbrev pub listed : {X : Type 0} → (X → List ℕ) → List X → List ℕ
 listed text [] = codes "-"
 listed text (first ∷ more) = text first ++ flat_map (λ x. 44 ∷ text x) more
+
+-- this, and something behind it
+pub record BeginsWith (text front : List ℕ) : Type 0 where
+  pub rest : List ℕ
+  pub is : text ≡ front ++ rest

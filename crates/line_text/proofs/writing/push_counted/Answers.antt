@@ -3,8 +3,8 @@ use Rattle.line_text.proofs.BuiltLines.{cut_room}
 use Rattle.std.proofs.lemmas.List.{take_all}
 use Rattle.line_text.proofs.writing.push_counted.Goals as goal
 
-pub returns : goal.returns
-returns c =
+pub returns-clause-text : goal.returns-clause-text
+returns-clause-text c =
     let start = c.len-start.ensures in
     let within = c.counted_in-length.ensures.within in
     let kept = c.counted_in-length.ensures.kept in
