@@ -1,0 +1,10 @@
+pub mod Answer
+pub mod Checking
+pub mod Evidence
+pub mod Firsts
+pub mod Judging
+pub mod Laws
+pub mod Lines
+pub mod Pairs
+pub mod Sights
+pub mod Steps

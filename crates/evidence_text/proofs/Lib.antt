@@ -1,0 +1,16 @@
+pub mod Again
+pub mod Ascents
+pub mod FieldForms
+pub mod FieldsAgain
+pub mod HexFields
+pub mod Holding
+pub mod HoldingLines
+pub mod Judging
+pub mod LastItems
+pub mod LineStops
+pub mod Meets
+pub mod OneReading
+pub mod RouterFacts
+pub mod SomeWords
+pub mod Taken
+pub mod Wording

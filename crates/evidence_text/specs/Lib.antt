@@ -1,0 +1,10 @@
+pub mod Before
+pub mod Judgeable
+pub mod Language
+pub mod Laws
+pub mod Order
+pub mod Outcomes
+pub mod Reading
+pub mod Said
+pub mod Spelling
+pub mod Writing
