@@ -1,0 +1,11 @@
+pub mod UnionFacts
+pub mod SetFacts
+pub mod FollowFacts
+pub mod EntryFacts
+pub mod AcceptFacts
+pub mod SearchFacts
+pub mod GraphFacts
+pub mod LinkFacts
+pub mod HistoryFacts
+pub mod SplitMixWords
+pub mod ScheduleFacts

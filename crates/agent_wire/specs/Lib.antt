@@ -1,0 +1,10 @@
+pub mod Requests
+pub mod Accepting
+pub mod Messages
+pub mod Link
+pub mod Histories
+pub mod Schedule
+pub mod Union
+pub mod Sets
+pub mod Told
+pub mod Laws
