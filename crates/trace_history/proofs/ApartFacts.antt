@@ -1,15 +1,12 @@
 -- Segments in which records stand alone.
-use Rattle.std.proofs.Common.{◌≡◌, ℕ, zero, suc, ◌+◌, ◌<◌, ◌≤◌, Bool, true, false, cond, ◌==◌, ◌∷◌, [], ◌++◌, ◌⊎◌, ◌∙◌, sym, refl, subst, ap, inl, inr, ⊎_elim, List, length, arith, append-nil, length-append, IsTrue}
+use Rattle.std.proofs.Common.{◌≡◌, ℕ, zero, suc, ◌+◌, ◌≤◌, Bool, true, false, cond, ◌==◌, ◌∷◌, [], ◌++◌, ◌∙◌, sym, refl, subst, ap, ⊎_elim, List, length, arith}
 use Rattle.std.specs.Prelude.{slice_get, Some}
 use Rattle.std.specs.List.{Contains}
 use Rattle.std.proofs.lemmas.Bool.{false≢true}
 use Rattle.std.proofs.lemmas.Bool.Decides.{Decides-eqb}
 use Rattle.std.proofs.lemmas.List.Elements.{Contains-append_left, Contains-append_right}
-use Rattle.spie_base.proofs.Membership.{has_none, has_first}
-use Rattle.spie_base.specs.declared.Entry.{Entry}
-use Rattle.spie_base.specs.declared.Rules.{Rules}
-use Rattle.router_account.specs.Account.{Account}
-use Rattle.trace_history.specs.History.{Event, recorded, rotated, archived, watched, ticked, queried, ended, Moment, History, Hop, account, account_after, clock, with_hop}
+use Rattle.spie_base.proofs.Membership.{has_first}
+use Rattle.trace_history.specs.History.{Event, recorded, rotated, archived, watched, ticked, queried, ended, History}
 use Rattle.trace_history.specs.Receipts.{is_barrier, segment, up_to_barrier, open_at, Receipt, receipt_by, receipts, opened_by, openings, IsLegal, IsLegalFor, IsInTurn, IsSequential}
 use Rattle.trace_history.specs.Apart.{AreApart, AreQuiet, IsApart, IsQuiet}
 use Rattle.trace_history.specs.Laws.{ApartIsSequential}
@@ -31,7 +28,7 @@ get_front [] ys i v e = cc
 get_front (x ∷ xs) ys zero v e = e
 get_front (x ∷ xs) ys (suc i) v e = get_front xs ys i v e
 
-get_seam : {X : Type 0} (xs : List X) (y : X) → slice_get (xs ++ y ∷ []) (length xs) ≡ Some y
+pub get_seam : {X : Type 0} (xs : List X) (y : X) → slice_get (xs ++ y ∷ []) (length xs) ≡ Some y
 get_seam [] y = refl
 get_seam (x ∷ xs) y = get_seam xs y
 

@@ -1,12 +1,12 @@
 -- Lines in whose segments records stand alone, and their histories.
-use Rattle.std.proofs.Common.{◌≡◌, ℕ, Bool, true, false, cond, ◌∷◌, [], ◌++◌, ◌⊎◌, ◌∙◌, sym, refl, subst, ap, inl, inr, ⊎_elim, List, append-nil, IsTrue}
+use Rattle.std.proofs.Common.{◌≡◌, ℕ, true, false, ◌∷◌, [], ◌++◌, ◌⊎◌, ◌∙◌, sym, refl, subst, inl, inr, ⊎_elim, List, append-nil}
 use Rattle.std.proofs.lemmas.Bool.{false≢true}
 use Rattle.spie_base.specs.declared.Sig.{Sig}
 use Rattle.trace_format.specs.declared.Line.{Line}
 use Rattle.trace_format.specs.declared.What.{What}
 use Rattle.trace_format.specs.declared.What.TheVariants.{Fwd, Xf, Rotate, Archive, Watch, Tick, Query, End}
 use Rattle.trace_history.specs.History.{Event, recorded, rotated, archived, watched, ticked, queried, ended, Moment, History, IsEventOf, IsHistoryOf}
-use Rattle.trace_history.specs.Receipts.{is_barrier, receipts, segment}
+use Rattle.trace_history.specs.Receipts.{receipts, segment}
 use Rattle.trace_history.specs.Apart.{AreApart, AreLinesApart, AreQuiet, FitsApart, IsApart, IsQuiet, Stood, none_stood, stood_after}
 use Rattle.trace_history.specs.Laws.{ApartLinesAreApart}
 

@@ -1,5 +1,5 @@
 -- Watches in segments where records stand alone.
-use Rattle.std.proofs.Common.{◌≡◌, ℕ, Bool, true, false, cond, ◌==◌, ◌∷◌, [], ◌++◌, ◌⊎◌, ◌∙◌, sym, refl, subst, ap, inl, inr, ⊎_elim, List, IsTrue}
+use Rattle.std.proofs.Common.{◌≡◌, ℕ, Bool, true, false, cond, ◌==◌, ◌∷◌, [], ◌∙◌, sym, refl, subst, ap, ⊎_elim, List}
 use Rattle.spie_base.specs.declared.Entry.{Entry}
 use Rattle.spie_base.specs.declared.Rules.{Rules}
 use Rattle.spie_base.specs.declared.Sig.{Sig}
@@ -9,9 +9,9 @@ use Rattle.router_account.specs.Ledger.{Ledger}
 use Rattle.router_account.specs.Watches.{IsBetween, is_shown, misses, watch_of, watch_word}
 use Rattle.router_account.specs.declared.Watch.{Watch as WatchAnswer}
 use Rattle.router_account.specs.declared.Watch.TheVariants.{Seen, NotSeen, Unknown}
-use Rattle.trace_history.specs.History.{Event, recorded, rotated, archived, watched, ticked, queried, ended, Moment, History, account, account_after, clock}
+use Rattle.trace_history.specs.History.{Event, recorded, rotated, archived, watched, ticked, queried, ended, History, account, account_after, clock}
 use Rattle.trace_history.specs.Receipts.{is_barrier, segment, up_to_barrier, receipt_by, receipts}
-use Rattle.trace_history.specs.Apart.{AreApart, AreQuiet, IsApart, IsQuiet}
+use Rattle.trace_history.specs.Apart.{AreApart, AreQuiet, IsQuiet}
 use Rattle.trace_history.specs.Laws.{ApartWatchesAreSequential}
 use Rattle.trace_history.specs.Ledgers.{ledger}
 use Rattle.trace_history.specs.Routers.{RouterRules}

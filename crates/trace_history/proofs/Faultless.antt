@@ -1,14 +1,12 @@
 -- Over a shelf of which no call failed no page is kept, left, or unreadable.
-use Rattle.std.proofs.Common.{ℕ, zero, suc, ◌≡◌, ◌≤◌, ◌<◌, ◌+◌, ◌-◌, ◌^◌, ◌∷◌, [], ◌∙◌, true, cond, List, length, filter, sym, ap, refl, subst, inl, inr, arith}
+use Rattle.std.proofs.Common.{ℕ, zero, suc, ◌≡◌, ◌≤◌, ◌<◌, ◌+◌, ◌-◌, ◌^◌, ◌∷◌, [], ◌∙◌, true, cond, List, length, filter, ap, refl, subst, inl, inr, arith}
 use Rattle.std.proofs.lemmas.Bool.{cases_eq}
 use Rattle.std.specs.Prelude.{min}
 use Rattle.std.specs.List.{Contains}
 use Rattle.spie_base.proofs.Membership.{has_first}
 use Rattle.router_account.specs.declared.Cause.TheVariants.{Failed}
-use Rattle.router_account.specs.Records.{AllFailed}
-use Rattle.router_account.specs.Shelves.{ShelfView}
-use Rattle.router_account.specs.Sights.{Reading, UnreadPage, failures, is_failed}
-use Rattle.trace_history.specs.History.{Event, recorded, rotated, archived, watched, ticked, queried, ended, History, QueryRun}
+use Rattle.router_account.specs.Sights.{UnreadPage, failures, is_failed}
+use Rattle.trace_history.specs.History.{Event, recorded, rotated, archived, watched, ticked, queried, ended, History}
 use Rattle.trace_history.specs.Laws.{NoFaultNoMark}
 use Rattle.trace_history.specs.Outcomes.{AreFaultless, EachQuery, HasNoneUnread, HasOnlyFaults, IfQuery, IsFaultless, fault_marks, fault_marks_by}
 use Rattle.trace_history.specs.Routers.{count, sum_over}

@@ -1,10 +1,10 @@
 -- Histories in whose segments records stand alone: such a segment has no rotation and no watch. What workers beside an
 -- operator answer is then what one worker answers.
-use Rattle.std.specs.Prelude.{ℕ, ◌≡◌, ◌⊎◌, List, [], ◌∷◌, Bool, true, false, IsTrue}
+use Rattle.std.specs.Prelude.{◌≡◌, ◌⊎◌, List, [], ◌∷◌, Bool, true, false, IsTrue}
 use Rattle.trace_format.specs.declared.Line.{Line}
 use Rattle.trace_format.specs.declared.What.{What}
 use Rattle.trace_format.specs.declared.What.TheVariants.{Fwd, Xf, Rotate, Archive, Watch, Tick, Query, End}
-use Rattle.trace_history.specs.History.{Event, recorded, rotated, archived, watched, ticked, queried, ended, History}
+use Rattle.trace_history.specs.History.{Event, rotated, watched, History}
 use Rattle.trace_history.specs.Receipts.{is_barrier, receipts, segment}
 
 -- no rotation and no watch

@@ -1,5 +1,5 @@
 -- What a history says of the report of a replay, and of its shelf. `Workers` has the replay itself.
-use Rattle.std.specs.Prelude.{◌≡◌, ◌<◌, ℕ, List, true}
+use Rattle.std.specs.Prelude.{◌≡◌, ◌<◌, ◌-◌, ◌^◌, ℕ, List, true}
 use Rattle.std.specs.List.{Contains}
 use Rattle.page_shelf.specs.Shelves.{ChangesOnly}
 use Rattle.page_shelf.specs.declared.ShelfName.{ShelfName}
@@ -19,6 +19,12 @@ use Rattle.trace_history.specs.Routers.{count, rules_of}
 pub record ReplayViews : Type 0 where
   pub shelf_before : ShelfView
   pub shelf_after : ShelfView
+
+-- the shelf tells what stands there, and none of its calls failed: its count of faults stays, below the counter's end
+pub record IsFaultlessShelf (views : ReplayViews) : Type 0 where
+  pub tells : views.shelf_before.tells ≡ true
+  pub faultless : views.shelf_after.faults ≡ views.shelf_before.faults
+  pub few : views.shelf_before.faults < 2 ^ 64 - 1
 
 -- the name of a record of a page that an archival covered, at one of so many routers
 pub record IsCoveredName (routers : ℕ) (history : History) (name : ShelfName) : Type 0 where
