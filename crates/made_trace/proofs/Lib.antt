@@ -1,0 +1,13 @@
+pub mod ApartMade
+pub mod Behind
+pub mod BodyFits
+pub mod Digits
+pub mod HeadFits
+pub mod HeadTexts
+pub mod Joined
+pub mod LineFits
+pub mod Numbers
+pub mod PacketFits
+pub mod SplitMixWords
+pub mod Texts
+pub mod TraceFacts
