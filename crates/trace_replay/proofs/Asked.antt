@@ -53,10 +53,11 @@ use Rattle.trace_replay.specs.Yards.{AllKeepEntries}
 use Rattle.trace_replay.proofs.Answered.{alone_of}
 use Rattle.trace_replay.proofs.Begun.{possible}
 use Rattle.trace_replay.proofs.Filled.{moment_of, clock_filled}
-use Rattle.trace_replay.proofs.Nets.{AgreeBelow, flood_same}
+use Rattle.trace_history.proofs.Nets.{AgreeBelow, flood_same}
 use Rattle.trace_replay.proofs.Passed.{ledger_queried, items_filled}
 use Rattle.trace_replay.proofs.Passing.{passed_router}
-use Rattle.trace_replay.proofs.Quiet.{AreQuiet, fold_append, quiet_append, quiet_cons, quiet_map, quiet_flat_map, quiet_pending, quiet_left, map_same}
+use Rattle.trace_replay.proofs.Quiet.{AreQuiet, fold_append, quiet_append, quiet_cons, quiet_map, quiet_flat_map, quiet_pending, quiet_left}
+use Rattle.trace_history.proofs.RouterLists.{map_same}
 use Rattle.trace_replay.proofs.Reported.{text_whole}
 use Rattle.trace_replay.proofs.Sums.{rose_add, rose_less, get_at, some_of}
 use Rattle.trace_replay.proofs.Texts.{longer}

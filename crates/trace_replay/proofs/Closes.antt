@@ -48,7 +48,8 @@ use Rattle.trace_replay.proofs.During.{during_later}
 use Rattle.trace_replay.proofs.Passed.{ledger_ticked, ledger_ended, items_filled, each_filled, marks_filled}
 use Rattle.trace_replay.proofs.Passing.{holds_same}
 use Rattle.trace_replay.proofs.Reported.{answered_length, few_longer, text_whole}
-use Rattle.trace_replay.proofs.Quiet.{AreQuiet, quiet_append, quiet_cons, quiet_flat_map, quiet_pending, quiet_left, quiet_closing, totals_quiet, flat_map_same}
+use Rattle.trace_replay.proofs.Quiet.{AreQuiet, quiet_append, quiet_cons, quiet_flat_map, quiet_pending, quiet_left, quiet_closing, totals_quiet}
+use Rattle.trace_history.proofs.RouterLists.{flat_map_same}
 use Rattle.trace_replay.proofs.Touched.{covered_more}
 use Rattle.trace_replay.proofs.Sums.{rose_add, rose_less, sum_none, sum_less, sum_add, some_of}
 

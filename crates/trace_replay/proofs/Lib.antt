@@ -23,7 +23,6 @@ pub mod LegalApart
 pub mod Merged
 pub mod Named
 pub mod Needs
-pub mod Nets
 pub mod Numbered
 pub mod OperatorLines
 pub mod OperatorWalk

@@ -1,7 +1,7 @@
 -- Items that add nothing to the totals.
-use Rattle.std.proofs.Common.{ℕ, zero, suc, ◌≡◌, ◌≤◌, ◌<◌, ◌+◌, ◌∷◌, [], ◌++◌, ◌∙◌, List, map, ap, refl, arith}
+use Rattle.std.proofs.Common.{ℕ, ◌≡◌, ◌∷◌, [], ◌++◌, ◌∙◌, List, map, ap, refl}
 use Rattle.std.specs.Prelude.{fold}
-use Rattle.std.specs.List.{flat_map, range_with_len}
+use Rattle.std.specs.List.{flat_map}
 use Rattle.std.specs.declared.option.Option.{Option}
 use Rattle.std.specs.Prelude.{Some, None}
 use Rattle.report_text.specs.declared.Item.{Item}
@@ -61,15 +61,3 @@ quiet_closing line r (Some x) = quiet_cons _ [] (λ z. refl) quiet_none
 
 pub totals_quiet : (items more : List Item) → AreQuiet more → totals_of (items ++ more) ≡ totals_of items
 totals_quiet items more a = fold_append items more no_totals ∙ a.each (totals_of items)
-
--- ---- lists of routers
-
-pub flat_map_same : {X : Type 0} (f g : ℕ → List X) (first len n : ℕ) → first + len ≤ n → ((r : ℕ) → r < n → f r ≡ g r) → flat_map f (range_with_len first len) ≡ flat_map g (range_with_len first len)
-flat_map_same f g first zero n l e = refl
-flat_map_same f g first (suc len) n l e =
-    ap (λ xs. xs ++ flat_map f (range_with_len (first + 1) len)) (e first (omega arith)) ∙ ap (λ xs. g first ++ xs) (flat_map_same f g (first + 1) len n (omega arith) e)
-
-pub map_same : {X : Type 0} (f g : ℕ → X) (first len n : ℕ) → first + len ≤ n → ((r : ℕ) → r < n → f r ≡ g r) → map f (range_with_len first len) ≡ map g (range_with_len first len)
-map_same f g first zero n l e = refl
-map_same f g first (suc len) n l e =
-    ap (λ x. x ∷ map f (range_with_len (first + 1) len)) (e first (omega arith)) ∙ ap (λ xs. g first ∷ xs) (map_same f g (first + 1) len n (omega arith) e)

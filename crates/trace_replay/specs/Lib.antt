@@ -13,4 +13,5 @@ pub mod Segmenting
 pub mod Segments
 pub mod Sights
 pub mod Standing
+pub mod Summary
 pub mod Yards

@@ -1,6 +1,7 @@
 // What is done with the agents of all routers.
 ghost use Rattle.std.specs.Prelude.{◌≤◌, IfOk, OnOk};
 ghost use Rattle.std.specs.List.{All};
+ghost use Rattle.topology.specs.declared.limits.TheConstants.{ROUTERS_MOST};
 ghost use Rattle.spie_base.specs.Shapes.{AreInRange};
 ghost use Rattle.data_agent.specs.Planes.{IsPrepared, entries_of};
 ghost use Rattle.data_agent.specs.Seeing.{shown_by, told_by};
@@ -22,7 +23,7 @@ pub fn open_all(
     routers: u32,
 ) -> Result<(Vec<Plane>, Vec<Agent>), NoMemory>
     requires rules { AreInRange rules.now.k rules.now.n }
-    requires few { routers ≤ 64 }
+    requires few { routers ≤ ROUTERS_MOST }
     ensures { IfOk result (λ r. AreOpened rules.now routers r.0.items r.1.items) }
 {
     let mut planes = Vec::new(alloc);

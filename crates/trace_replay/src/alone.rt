@@ -14,6 +14,7 @@ ghost use Rattle.trace_replay.specs.Yards.{AreBeside, AreOpened, by_workers};
 
 use crate::agents::open_all;
 use crate::closing::line_closing;
+use crate::finder::InTurn;
 use crate::lines::line_within;
 use crate::state::State;
 use crate::yard::Yard;
@@ -64,7 +65,7 @@ fn step<H: Shelf>(
         (view_of H.tells H.contents H.faults shelf.old) (view_of H.tells H.contents H.faults shelf.new)) }
 {
     if is_barrier(&line.what) {
-        line_closing(alloc, trace, line, shelf, planes, agents, state)?;
+        line_closing(&InTurn, alloc, trace, line, shelf, planes, agents, state)?;
         return Ok(());
     }
     line_within(alloc, trace, line, shelf, planes, agents, state)?;

@@ -13,6 +13,7 @@ ghost use Rattle.trace_replay.specs.Yards.{AreBeside, by_workers};
 
 use crate::agents::{pass_all, prepare_all, see_all};
 use crate::barriers::{push_answers, push_closed, push_left};
+use crate::finder::Finder;
 use crate::lines::sig_of;
 use crate::queries::print_query;
 use crate::state::State;
@@ -24,7 +25,6 @@ use reverse_flood::Node;
 use spie_base::{NoMemory, RouterId};
 use std::alloc::Global;
 use trace_format::{Line, Trace, What};
-use traceback_manager::trace as trace_flood;
 
 // The answers that waited for the barrier are printed, and the next segment begins behind the barrier's line.
 fn print_answers(
@@ -136,7 +136,8 @@ fn end<H: Shelf>(
     Ok(())
 }
 
-fn query<H: Shelf>(
+fn query<F: Finder, H: Shelf>(
+    finder: &F,
     alloc: Global,
     trace: &Trace,
     line: &Line,
@@ -148,6 +149,7 @@ fn query<H: Shelf>(
     agents: &mut [Agent],
     state: &mut State,
 ) -> Result<(), NoMemory>
+    requires found { F.ready finder.now }
     requires is { line.now.what ≡ Query router packet time }
     requires links { IsSoundLayout trace.now.topology }
     requires beside { AreBeside planes.now agents.old }
@@ -161,14 +163,15 @@ fn query<H: Shelf>(
     let barriers = pass_all(alloc, shelf, state.clock, false, planes, agents)?;
     prepare_all(alloc, planes, agents)?;
     let sights = see_all(alloc, shelf, time, agents)?;
-    let graph = trace_flood(alloc, &trace.topology, &sights, &Node { router, sig })?;
+    let graph = finder.find(alloc, &trace.topology, &sights, &Node { router, sig })?;
     print_answers(alloc, trace, &barriers, state)?;
     print_query(alloc, trace, line.number, &barriers, &sights, &graph, state)?;
     Ok(())
 }
 
 /// The line that ends a segment.
-pub fn line_closing<H: Shelf>(
+pub fn line_closing<F: Finder, H: Shelf>(
+    finder: &F,
     alloc: Global,
     trace: &Trace,
     line: &Line,
@@ -177,6 +180,7 @@ pub fn line_closing<H: Shelf>(
     agents: &mut [Agent],
     state: &mut State,
 ) -> Result<(), NoMemory>
+    requires found { F.ready finder.now }
     requires barrier { is_barrier_line line.now.what ≡ true }
     requires links { IsSoundLayout trace.now.topology }
     requires beside { AreBeside planes.now agents.old }
@@ -193,7 +197,7 @@ pub fn line_closing<H: Shelf>(
             packet,
             time,
         } => query(
-            alloc, trace, line, router, packet, time, shelf, planes, agents, state,
+            finder, alloc, trace, line, router, packet, time, shelf, planes, agents, state,
         ),
         What::End => end(alloc, trace, line, shelf, planes, agents, state),
         _ => unreachable!(),

@@ -30,10 +30,11 @@
 //!
 //! There each router's agent, in their order, finishes its archival, closes its page where a tick is due, and lets expired
 //! pages go. Then the lines that waited are printed, and the barrier's own. A query is answered behind that, once the agents
-//! were made ready for it.
+//! were made ready for it. One worker asks the regions of its flood one after another, several ask those of a round at once
+//! (`finder`); the graph is the same.
 //!
 //! Read `yard` and `alone` first, then `state`, `lines` (within a segment), `agents` (all routers at a barrier), `closing`
-//! (barriers), `barriers`, `queries`, `printing` and `sights`; for several workers `segments` and `segment`.
+//! (barriers), `finder`, `barriers`, `queries`, `printing` and `sights`; for several workers `segments` and `segment`.
 #![tactic(auto)]
 
 mod agents;
@@ -41,6 +42,7 @@ mod alone;
 mod barriers;
 mod closing;
 mod conclude;
+mod finder;
 pub mod laws;
 mod lines;
 mod operator;
@@ -51,11 +53,13 @@ mod segment;
 mod segments;
 mod sights;
 mod state;
+mod summary;
 mod yard;
 
 pub use alone::{Replayed, replay_alone};
 pub use segments::replay;
 pub use sights::{has_query, sights_alone};
+pub use summary::load_text;
 pub use trace_history::Totals;
 pub use trace_workers::{Free, Turnstile};
 pub use yard::Yard;

@@ -105,7 +105,7 @@ fn archive<H: Shelf>(
         (view_of H.tells H.contents H.faults shelf.old) (view_of H.tells H.contents H.faults shelf.new)) }
 {
     let at = router.number as usize;
-    agents[at].archive_beside(alloc, &planes[at], shelf)?;
+    agents[at].archive(alloc, &planes[at], shelf)?;
     push_answer(answers, Answer::Archived(router))?;
     Ok(())
 }

@@ -1,6 +1,7 @@
 // The passes of a segment: each worker gets one of each router's plane, and they come back.
 ghost use Rattle.std.specs.Prelude.{◌≡◌, ◌≤◌, ◌++◌, ◌∷◌, [], OnOk, All, length, vec_len, Vec};
 ghost use Rattle.std.specs.declared.alloc.Global.{Global as TheGlobal};
+ghost use Rattle.gate_core.specs.declared.limits.TheConstants.{MOST_PASSES};
 ghost use Rattle.page_gate.specs.Held.{PassHeld};
 ghost use Rattle.data_agent.specs.Planes.{IsOwnPlane, entries_of};
 ghost use Rattle.data_agent.specs.Standing.{StandsFor};
@@ -28,7 +29,7 @@ fn deal_one(
     columns: &mut Vec<Vec<Pass>>,
 ) -> Result<(), NoMemory>
     requires some { 1 ≤ workers }
-    requires few { workers ≤ 16 }
+    requires few { workers ≤ MOST_PASSES }
     requires jobs { length jobs.old ≡ workers }
     requires room { HaveRoom jobs.old }
     requires own { IsOwnPlane plane.now agent.old }
@@ -71,7 +72,7 @@ pub fn deal_all(
     columns: &mut Vec<Vec<Pass>>,
 ) -> Result<(), NoMemory>
     requires some { 1 ≤ workers }
-    requires few { workers ≤ 16 }
+    requires few { workers ≤ MOST_PASSES }
     requires jobs { AreFresh workers (length planes.now) jobs.old }
     requires beside { AreBeside planes.now agents.old }
     requires stands { All (IsStanding StandsFor) agents.old }

@@ -17,6 +17,7 @@
 // and the answers of all lines stand in line order, as the barrier prints them. The moments of the lines are put together
 // from both parts (`specs/Merging`), and the ledgers of both parts make up that of the whole (`proofs/Apart`).
 ghost use Rattle.std.specs.Prelude.{◌≡◌, ◌≤◌, [], IfOk, OnOk, length};
+ghost use Rattle.gate_core.specs.declared.limits.TheConstants.{MOST_PASSES};
 ghost use Rattle.trace_format.specs.Sound.{IsSound};
 ghost use Rattle.data_agent.specs.Planes.{entries_of};
 ghost use Rattle.data_agent.specs.Standing.{StandsFor};
@@ -57,7 +58,7 @@ pub struct Crew {
 /// The crew of so many workers, for a trace of so many routers.
 pub fn crew_of(alloc: Global, workers: u32, routers: u32) -> Result<Crew, NoMemory>
     requires some { 2 ≤ workers }
-    requires few { workers ≤ 16 }
+    requires few { workers ≤ MOST_PASSES }
     ensures { IfOk result (λ crew. IsCrewOf workers routers crew) }
 {
     let jobs = open_jobs(alloc, workers as usize, routers as usize)?;
@@ -137,7 +138,7 @@ fn do_lines<R: Threads + Wait + Sync, T: Turnstile, H: Shelf + Send>(
     requires is { IsSegment trace.now from to }
     requires lines { lines.now ≡ lines_between trace.now.lines from to }
     requires some { 2 ≤ workers }
-    requires few { workers ≤ 16 }
+    requires few { workers ≤ MOST_PASSES }
     requires jobs { AreFresh workers (length planes.now) jobs.old }
     requires columns { columns.old.items ≡ [] }
     requires given { given.old.items ≡ [] }
@@ -183,7 +184,7 @@ pub fn segment<R: Threads + Wait + Sync, T: Turnstile, H: Shelf + Send>(
     requires sound { IsSound trace.now }
     requires is { IsSegment trace.now from to }
     requires some { 2 ≤ workers }
-    requires few { workers ≤ 16 }
+    requires few { workers ≤ MOST_PASSES }
     requires crew { IsCrewOf workers (count trace.now) crew.old }
     requires beside { AreBeside planes.now agents.old }
     requires ready { IsAtSegment (by_workers workers) StandsFor trace.now from to agents.old state.old

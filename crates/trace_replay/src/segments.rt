@@ -1,5 +1,6 @@
 // The replay of a trace by several workers, segment by segment.
 ghost use Rattle.std.specs.Prelude.{◌≡◌, ◌≤◌, ◌<◌, [], IfOk, OnOk, OnErr, length};
+ghost use Rattle.gate_core.specs.declared.limits.TheConstants.{MOST_PASSES};
 ghost use Rattle.trace_format.specs.Sound.{IsSound};
 ghost use Rattle.trace_history.specs.Routers.{count};
 ghost use Rattle.trace_history.specs.Workers.{IsReplayedBy};
@@ -13,6 +14,7 @@ ghost use Rattle.trace_replay.specs.Yards.{AreBeside, by_workers};
 use crate::agents::open_all;
 use crate::alone::{Replayed, begun, is_barrier, replay_alone};
 use crate::closing::line_closing;
+use crate::finder::AtOnce;
 use crate::segment::{Crew, crew_of, segment};
 use crate::state::State;
 use crate::yard::Yard;
@@ -44,7 +46,7 @@ fn segment_and_barrier<R: Threads + Wait + Sync, T: Turnstile, H: Shelf + Send>(
     requires sound { IsSound trace.now }
     requires is { IsSegment trace.now from to }
     requires some { 2 ≤ workers }
-    requires few { workers ≤ 16 }
+    requires few { workers ≤ MOST_PASSES }
     requires crew { IsCrewOf workers (count trace.now) crew.old }
     requires beside { AreBeside planes.now agents.old }
     requires ready { (start : ShelfView) × HasEnded (by_workers workers) StandsFor trace.now start from agents.old state.old
@@ -58,7 +60,16 @@ fn segment_and_barrier<R: Threads + Wait + Sync, T: Turnstile, H: Shelf + Send>(
         rt, alloc, trace, from, to, shelf, planes, agents, workers, crew, turnstile, state,
     )?;
     let line = &trace.lines.items()[to];
-    line_closing(alloc, trace, line, shelf, planes, agents, state)?;
+    line_closing(
+        &AtOnce { rt },
+        alloc,
+        trace,
+        line,
+        shelf,
+        planes,
+        agents,
+        state,
+    )?;
     Ok(())
 }
 
@@ -80,7 +91,7 @@ fn advance<R: Threads + Wait + Sync, T: Turnstile, H: Shelf + Send>(
     requires sound { IsSound trace.now }
     requires there { to < length trace.now.lines }
     requires some { 2 ≤ workers }
-    requires few { workers ≤ 16 }
+    requires few { workers ≤ MOST_PASSES }
     requires crew { IsCrewOf workers (count trace.now) crew.old }
     requires beside { AreBeside planes.now agents.old }
     requires ready { (start : ShelfView) × HasCut (by_workers workers) StandsFor trace.now start from to agents.old state.old
@@ -113,7 +124,7 @@ fn all_segments<R: Threads + Wait + Sync, T: Turnstile, H: Shelf + Send>(
 ) -> Result<(), NoMemory>
     requires sound { IsSound trace.now }
     requires some { 2 ≤ workers }
-    requires few { workers ≤ 16 }
+    requires few { workers ≤ MOST_PASSES }
     requires crew { IsCrewOf workers (count trace.now) crew.old }
     requires beside { AreBeside planes.now agents.old }
     requires begins { HasDone (by_workers workers) StandsFor trace.now (view_of H.tells H.contents H.faults shelf.old) 0
@@ -144,7 +155,7 @@ fn replay_together<R: Threads + Wait + Sync, T: Turnstile, H: Shelf + Send>(
     requires sound { IsSound trace.now }
     requires empty { yard.old ≡ [] }
     requires some { 2 ≤ workers }
-    requires few { workers ≤ 16 }
+    requires few { workers ≤ MOST_PASSES }
     ensures replayed { IfOk result (λ r. IsReplayedBy workers trace.now r.report r.totals
         (views_of H.tells H.contents H.faults shelf.old shelf.new) yard.new) }
     ensures unopened { OnErr result (yard.new ≡ []) }
@@ -174,12 +185,13 @@ fn replay_together<R: Threads + Wait + Sync, T: Turnstile, H: Shelf + Send>(
 
 /// Replays a trace with 1 to 16 workers over a shelf, segment by segment, on a plane for each router, and leaves these with their
 /// agents in the yard. With one worker it is `replay_alone`. With several, the records of a segment are dealt to the workers in
-/// turn, and the calling thread rotates, archives and watches beside them. The trace keeps to the rules on names, packets,
-/// numbers and times, as each trace that was read does. The bytes in the room are dropped, and the report is written into its
-/// memory.
+/// turn, and the calling thread rotates, archives and watches beside them; the regions of a query are asked at once, each in a
+/// thread of its own. The trace keeps to the rules on names, packets, numbers and times, as each trace that was read does. The
+/// bytes in the room are dropped, and the report is written into its memory.
 ///
 /// Costs what `replay_alone` does, with the records of a segment shared among the workers. Takes beside its memory a pass for each
-/// worker at each router, for each line of a segment 8 bytes, and for each record of it its place and its page.
+/// worker at each router, for each line of a segment 8 bytes, for each record of it its place and its page, and during a query
+/// a search for each region.
 pub fn replay<R: Threads + Wait + Sync, T: Turnstile, H: Shelf + Send>(
     rt: &R,
     alloc: Global,
@@ -193,7 +205,7 @@ pub fn replay<R: Threads + Wait + Sync, T: Turnstile, H: Shelf + Send>(
     requires sound { IsSound trace.now }
     requires empty { yard.old ≡ [] }
     requires some { 1 ≤ workers }
-    requires few { workers ≤ 16 }
+    requires few { workers ≤ MOST_PASSES }
     ensures replayed { IfOk result (λ r. IsReplayedBy workers trace.now r.report r.totals
         (views_of H.tells H.contents H.faults shelf.old shelf.new) yard.new) }
     ensures unopened { OnErr result (yard.new ≡ []) }

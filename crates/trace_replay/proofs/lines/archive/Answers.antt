@@ -1,4 +1,4 @@
-use Rattle.std.proofs.Common.{refl}
+use Rattle.std.proofs.Common.{refl, inl}
 use Rattle.data_agent.specs.Standing.{StandsFor}
 use Rattle.trace_replay.specs.Yards.{by_workers}
 use Rattle.router_account.specs.Shelves.{view_of}
@@ -11,14 +11,14 @@ use Rattle.trace_replay.proofs.lines.archive.Goals as goal
 pub archive-requires-clause-noted : goal.archive-requires-clause-noted
 archive-requires-clause-noted g c =
     let view = view_of g.H.Shelf.tells g.H.Shelf.contents g.H.Shelf.faults in
-    archive_fresh (by_workers 1) StandsFor c.args.trace.now c.args.line.now c.args.agents.now c.index-agents-at.result c.args.state.now (view c.args.shelf.now) c.requires.ready c.args.router c.requires.is
+    inl (archive_fresh (by_workers 1) StandsFor c.args.trace.now c.args.line.now c.args.agents.now c.index-agents-at.result c.args.state.now (view c.args.shelf.now) c.requires.ready c.args.router c.requires.is)
 
 pub returns-clause-does : goal.returns-clause-does
 returns-clause-does g c =
     let view = view_of g.H.Shelf.tells g.H.Shelf.contents g.H.Shelf.faults in
     let e = c.in_ok-archive.ensures in
     does_archive (by_workers 1) StandsFor c.args.trace.now c.args.line.now c.args.agents.now c.index-agents-at.result c.archive.new.self c.args.state.now c.answered.new.state (view c.args.shelf.now) (view c.archive.new.shelf) refl
-    c.args.router c.requires.is e.later e.still e.noted.0 e.noted.1 e.noted.2 c.archive.ensures.entries c.in_ok-answered.ensures
+    c.args.router c.requires.is e.later e.still e.noted.0 e.noted.1 e.noted.3 c.archive.ensures.entries c.in_ok-answered.ensures
 
 pub archive-requires-clause-own : goal.archive-requires-clause-own
 archive-requires-clause-own g c = own_at c.args.planes.now c.args.agents.now c.args.router.number c.index-planes-at.result c.index-agents-at.result c.requires.beside (archive_in (by_workers 1) StandsFor c.args.trace.now c.args.line.now c.args.agents.now c.index-agents-at.result c.args.state.now (view_of g.H.Shelf.tells g.H.Shelf.contents g.H.Shelf.faults c.args.shelf.now) c.requires.ready c.args.router c.requires.is) c.index-planes-at.is

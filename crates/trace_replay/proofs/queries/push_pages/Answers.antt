@@ -20,7 +20,7 @@ loop-router-preserved c =
     let n3 = c.loop-router-test.true in
     let l : r < length c.args.sights.now = omega (arith, n1, n2, n3) in
     one_more f (item_at told_by c.args.sights.now c.args.line) c.args.out.now.items r _ _ c.loop-router.invariant
-    (c.in_ok-push_item.ensures ∙ ap (λ (x : Item). c.loop-router.out.items ++ f x)
+    (c.in_ok-push_item.ensures.text ∙ ap (λ (x : Item). c.loop-router.out.items ++ f x)
     (c.in_ok-item.ensures
     ∙ ap (λ (s : Sight). sight_item c.args.line r (told_by s)) c.index-sights-router.is
     ∙ sym (ap (λ (o : Option Sight). unwrap_or (option_map (λ (s : Sight). sight_item c.args.line r (told_by s)) o) Head) (get_at c.args.sights.now r c.index-sights-router.result l))))
