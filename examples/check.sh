@@ -94,6 +94,18 @@ check "no capture" 3 $?
 says "no capture" "spie: a capture begins with a header of 24 bytes"
 [ "$(cat "$out")" = "refused 13 short" ] || { echo "no capture: another refusal"; failed=1; }
 
+# A certificate is judged by what stands in it. Without a line of its answer another line fails, and without its end it is none.
+answer=$here/nat_between_two.certificate
+"$spie" check < "$answer" > "$out" 2> "$err"
+check "a certificate" 0 $?
+[ "$(cat "$out")" = "yes nodes 4 edges 5 unknown 2 clear 2" ] || { echo "a certificate: another verdict"; failed=1; }
+sed '/^clear 3 1/d' "$answer" | "$spie" check > "$out" 2> "$err"
+check "a line left out" 1 $?
+[ "$(cat "$out")" = "no 28" ] || { echo "a line left out: another verdict"; failed=1; }
+sed '/^end/d' "$answer" | "$spie" check > "$out" 2> "$err"
+check "no end" 3 $?
+[ "$(cat "$out")" = "refused 29 ending" ] || { echo "no end: another refusal"; failed=1; }
+
 "$spie" replay 0 < /dev/null > "$out" 2> "$err"
 check "wrong arguments" 2 $?
 says "wrong arguments" "usage: spie replay W"

@@ -6,6 +6,7 @@
 //! that comes or goes, changes what is printed. Read `rows` first, then `runs` and `pieces`.
 #![tactic(auto)]
 
+mod changes;
 mod pieces;
 mod receipts;
 mod rows;

@@ -9,7 +9,7 @@ use std::sync::Wait;
 use std::thread::Threads;
 use std::{fs, io};
 
-// How many bytes source and sink move at a call.
+// How many bytes source and sink move at a call, where a row says nothing else.
 const STEP: usize = 1000;
 
 // How many bytes a sink takes that does not fail.
@@ -20,8 +20,12 @@ const ROOM: usize = 10_000;
 pub struct Row {
     pub words: Vec<String>,
     pub input: Vec<u8>,
+    /// How many bytes source and sink move at a call.
+    pub step: usize,
     /// The number of the source's call that fails.
     pub source: u64,
+    /// The number of the sink's call that fails.
+    pub write: u64,
     /// How many bytes the sink takes.
     pub room: usize,
     /// The numbers of the shelf's calls that fail.
@@ -39,7 +43,9 @@ impl Row {
         Row {
             words: Vec::new(alloc),
             input: Vec::new(alloc),
+            step: STEP,
             source: u64::MAX,
+            write: u64::MAX,
             room: ROOM,
             shelf: Vec::new(alloc),
             bent: None,
@@ -50,7 +56,9 @@ impl Row {
 
     /// Lets go of all but the words and the input.
     pub fn forget(&mut self, alloc: Global) {
+        self.step = STEP;
         self.source = u64::MAX;
+        self.write = u64::MAX;
         self.room = ROOM;
         self.shelf = Vec::new(alloc);
         self.bent = None;
@@ -118,8 +126,10 @@ fn run_over<R: Threads + Wait + Sync, H: Shelf + Send>(
     shelf: &mut H,
 ) -> io::Result<Outcome> {
     let failing = [row.source];
-    let mut source = MemSource::new(alloc, &row.input, STEP, &failing).map_err(memory)?;
-    let mut sink = MemSink::new(alloc, STEP, row.room, &[]).map_err(memory)?;
+    let failing_writes = [row.write];
+    let step = if row.step == 0 { 1 } else { row.step };
+    let mut source = MemSource::new(alloc, &row.input, step, &failing).map_err(memory)?;
+    let mut sink = MemSink::new(alloc, step, row.room, &failing_writes).map_err(memory)?;
     let mut yard = Yard::new(alloc).map_err(memory)?;
     let words = row.words.as_slice();
     let status = if row.alone {

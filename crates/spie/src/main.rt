@@ -1,11 +1,13 @@
-//! spie: replays a trace of a hash-based traceback system, makes lines of a trace from a capture of packets, or plays a script
-//! of steps of a router's gate, from standard input to standard output.
+//! spie: replays a trace of a hash-based traceback system, makes lines of a trace from a capture of packets, plays a script
+//! of steps of a router's gate, judges a certificate of an answer, or makes a trace of any size to try all that with, from
+//! standard input to standard output.
 //!
 //! `spie replay W < trace > report`, `spie replay W FOLDER < trace > report`, `spie play < script > answers`,
-//! `spie pcap NAME FIRST SKIP < capture > lines`, `spie pcap count < capture`. W is the
-//! number of workers, 1 to 16. Pages that are archived go to files in FOLDER, which has to be there, and without it to memory. It ends with the number of
-//! the run's status: 0 done, 2 unknown command or wrong arguments, 3 the input is refused, 4 the input can't be read,
-//! 5 the output can't be written, 6 there is no memory. Where it is not 0, standard error says why in a sentence.
+//! `spie pcap NAME FIRST SKIP < capture > lines`, `spie pcap count < capture`, `spie make SEED PACKETS > trace`,
+//! `spie load SEED PACKETS W`, `spie check < certificate`. W is the number of workers, 1 to 16. Pages that are archived go to
+//! files in FOLDER, which has to be there, and without it to memory. It ends with the number of the run's status: 0 done,
+//! 1 `check` says no, 2 unknown command or wrong arguments, 3 the input is refused, 4 the input can't be read, 5 the output
+//! can't be written, 6 there is no memory. Where it is not 0, standard error says why in a sentence.
 //!
 //! What it does is the contract of `spie_run::run`; here stand only the edges: the arguments, standard input and
 //! output, the shelf, the yard, and what is said on standard error (`messages`), for which `front_sink` remembers how the output
@@ -35,6 +37,7 @@ fn words(rt: &HostRuntime, alloc: Global) -> Result<Vec<String>, NoMemory> {
                 words.push(word)?;
             }
         }
+        Err(error) if error.kind() == io::ErrorKind::OutOfMemory => return Err(NoMemory),
         Err(_) => words.push(String::new(alloc))?,
     }
     Ok(words)
@@ -69,6 +72,7 @@ fn is_capture(words: &[String]) -> bool {
 fn main(rt: HostRuntime) -> ExitCode {
     let alloc = rt.alloc();
     let Ok(words) = words(&rt, alloc) else {
+        let _ = explain(&rt, Status::NoMemory, b"", false);
         return ExitCode::from(Status::NoMemory.code());
     };
     let mut source = IoSource::new(rt.reader());

@@ -7,10 +7,13 @@ const USAGE: &str =
        spie play < SCRIPT > ANSWERS              does the steps of a script on the gate of a router's pages
        spie pcap NAME FIRST SKIP < CAPTURE       the packets of a capture as lines of a trace, as router NAME forwards them
        spie pcap count < CAPTURE                 how many records of a capture are packets
+       spie make SEED PACKETS > TRACE            a made trace of 1 to 32768 packets, by this seed
+       spie load SEED PACKETS W                  replays that trace with W workers, and sums it up in one line
+       spie check < CERTIFICATE                  whether the lines of a certificate hold; exit status 1 means no
 example: spie replay 1 < examples/three_in_a_line.trace";
 
 // Each word of a refusal, and what it says.
-const REFUSALS: [(&str, &str); 22] = [
+const REFUSALS: [(&str, &str); 23] = [
     ("too-long", "the input has more than 67,108,864 bytes"),
     ("after", "there is more input behind the line `end`"),
     (
@@ -56,6 +59,10 @@ const REFUSALS: [(&str, &str); 22] = [
     (
         "twice",
         "this router was archived already since the last tick or query",
+    ),
+    (
+        "order",
+        "the line may not stand here, or its router, page or link doesn't ascend",
     ),
 ];
 
@@ -110,7 +117,10 @@ pub fn explain(
     is_capture: bool,
 ) -> std::io::Result<()> {
     match status {
-        Status::Done | Status::No => Ok(()),
+        Status::Done => Ok(()),
+        Status::No => eprintln!(rt;
+            "spie: the certificate doesn't hold: its pages don't bear this line out"
+        ),
         Status::Usage => eprintln!(rt; "{USAGE}"),
         Status::TraceRefused => refusal(rt, front, is_capture),
         Status::ReadFault => eprintln!(rt; "spie: the input can't be read; nothing was written"),

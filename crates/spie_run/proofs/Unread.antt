@@ -1,5 +1,5 @@
 -- Why a text is not replayed.
-use Rattle.std.proofs.Common.{ℕ, List, ◌≡◌}
+use Rattle.std.proofs.Common.{ℕ, List}
 use Rattle.trace_format.specs.declared.TraceRefused.{TraceRefused}
 use Rattle.spie_run.specs.Later.{IsUnreplayed}
 use Rattle.spie_run.specs.Replies.{IsRefusalOf, IsUnread}

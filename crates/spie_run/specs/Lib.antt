@@ -1,4 +1,5 @@
 pub mod Captures
+pub mod Certificates
 pub mod Inputs
 pub mod Later
 pub mod Refusals

@@ -27,8 +27,8 @@ fn why_word(why: CaptureWhy) -> &'static [u8]
     }
 }
 
-// Appends a field and its number.
-fn push_counted(out: &mut Vec<u8>, name: &[u8], count: u32) -> Result<(), NoMemory>
+/// Appends a field and its number.
+pub(crate) fn push_counted(out: &mut Vec<u8>, name: &[u8], count: u32) -> Result<(), NoMemory>
     ensures { OnOk result (out.new.items ≡ out.old.items ++ counted name.now count) }
 {
     push_field(out, name)?;

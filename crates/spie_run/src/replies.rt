@@ -11,9 +11,11 @@ ghost use Rattle.trace_replay.specs.Agents.{views_of};
 ghost use Rattle.spie_run.specs.Later.{is_first_version};
 ghost use Rattle.spie_run.specs.Replies.{IsRefusalOf, IsUnread};
 ghost use Rattle.spie_run.specs.Run.{Answers, keeping};
-ghost use Rattle.spie_run.specs.Words.{IsNamed, is_alone, is_replay};
+ghost use Rattle.spie_run.specs.Words.{IsInRange, IsNamed, is_replay};
 
 use crate::captures::{captured, counted};
+use crate::certificates::checked;
+use crate::made::{loaded_alone, loaded_beside, written};
 use crate::refusals::fault_text;
 use crate::words::Command;
 use gate_core::play;
@@ -80,9 +82,9 @@ pub(crate) enum Unread {
 
 // A trace, and the memory of the text that it was read from.
 #[derive(Drop)]
-struct Read {
-    trace: Trace,
-    room: Vec<u8>,
+pub(crate) struct Read {
+    pub trace: Trace,
+    pub room: Vec<u8>,
 }
 
 // The trace that a text is, of version 1. Lets go of a text that is none.
@@ -127,7 +129,7 @@ fn replayed_alone<H: Shelf>(
     yard: &mut Yard,
 ) -> Result<Reply, NoMemory>
     requires { yard.old ≡ [] }
-    ensures answers { IfOk result (λ reply. Answers (Command.Replay 1) [] reply.status
+    ensures answers { (name : List ℕ) → IfOk result (λ reply. Answers (Command.Replay 1) name reply.status
         (keeping (views_of H.tells H.contents H.faults shelf.old shelf.new) yard.old yard.new) text.items reply.text.items) }
     ensures unopened { OnErr result (yard.new ≡ yard.old) }
 {
@@ -153,7 +155,7 @@ pub fn reply_alone<H: Shelf>(
     shelf: &mut H,
     yard: &mut Yard,
 ) -> Result<Reply, NoMemory>
-    requires alone { is_alone command ≡ true }
+    requires range { IsInRange 1 command }
     requires named { IsNamed command name.now }
     requires short { length text.items ≤ MOST_BYTES }
     requires empty { yard.old ≡ [] }
@@ -167,12 +169,13 @@ pub fn reply_alone<H: Shelf>(
         Command::Play => played(alloc, text),
         Command::Pcap { first, skip } => captured(alloc, &text, name, first, skip),
         Command::PcapCount => counted(alloc, &text),
+        Command::Make { made } => written(alloc, made),
+        Command::Load { made, .. } => loaded_alone(alloc, made, shelf, yard),
+        Command::Check => checked(alloc, text),
     }
 }
 
-/// What a replay by workers beside an operator makes of an input, whose bytes are let go of once they are read. The report is
-/// written into their memory.
-pub fn reply_beside<R: Threads + Wait + Sync, H: Shelf + Send>(
+fn replayed_beside<R: Threads + Wait + Sync, H: Shelf + Send>(
     rt: &R,
     alloc: Global,
     workers: u32,
@@ -183,7 +186,7 @@ pub fn reply_beside<R: Threads + Wait + Sync, H: Shelf + Send>(
     requires least { 1 ≤ workers }
     requires most { workers ≤ MOST_PASSES }
     requires empty { yard.old ≡ [] }
-    ensures answers { IfOk result (λ reply. Answers (Command.Replay workers) [] reply.status
+    ensures answers { (name : List ℕ) → IfOk result (λ reply. Answers (Command.Replay workers) name reply.status
         (keeping (views_of H.tells H.contents H.faults shelf.old shelf.new) yard.old yard.new) text.items reply.text.items) }
     ensures unopened { OnErr result (yard.new ≡ yard.old) }
 {
@@ -196,5 +199,31 @@ pub fn reply_beside<R: Threads + Wait + Sync, H: Shelf + Send>(
         }),
         Err(Unread::Refused(reply)) => Ok(reply),
         Err(Unread::NoMemory) => Err(NoMemory),
+    }
+}
+
+/// What a command makes of an input, by workers beside an operator where it replays. All else is as `reply_alone` does it.
+pub fn reply_beside<R: Threads + Wait + Sync, H: Shelf + Send>(
+    rt: &R,
+    alloc: Global,
+    command: Command,
+    name: &[u8],
+    text: Vec<u8>,
+    shelf: &mut H,
+    yard: &mut Yard,
+) -> Result<Reply, NoMemory>
+    requires range { IsInRange MOST_PASSES command }
+    requires named { IsNamed command name.now }
+    requires short { length text.items ≤ MOST_BYTES }
+    requires empty { yard.old ≡ [] }
+    ensures answers { IfOk result (λ reply. Answers command name.now reply.status
+        (keeping (views_of H.tells H.contents H.faults shelf.old shelf.new) yard.old yard.new) text.items reply.text.items) }
+    ensures untouched { is_replay command ≡ false → (shelf.new ≡ shelf.old) × (yard.new ≡ yard.old) }
+    ensures unopened { OnErr result (yard.new ≡ yard.old) }
+{
+    match command {
+        Command::Replay { workers } => replayed_beside(rt, alloc, workers, text, shelf, yard),
+        Command::Load { made, workers } => loaded_beside(rt, alloc, made, workers, shelf, yard),
+        _ => reply_alone(alloc, command, name, text, shelf, yard),
     }
 }

@@ -1,4 +1,4 @@
-use Rattle.std.proofs.Common.{ℕ, List, ◌≡◌, ◌∙◌, sym, ap, inr, refl, subst}
+use Rattle.std.proofs.Common.{ℕ, List, ◌∙◌, sym, ap, inr, refl, subst}
 use Rattle.trace_format.specs.Trace.{IsTrace}
 use Rattle.trace_format.specs.declared.WhyRefused.TheVariants.{Field}
 use Rattle.spie_run.specs.Later.{is_first_version}
